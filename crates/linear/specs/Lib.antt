@@ -1,0 +1,4 @@
+pub mod Field
+pub mod Rows
+pub mod Span
+pub mod Reduced

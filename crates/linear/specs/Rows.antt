@@ -1,0 +1,21 @@
+-- Row kinds: rows of a fixed width over a field.
+--   Rows K V      what a kind of row offers: its width, zero, sum, scalar multiple, numbered coordinates
+--   RowLaws F R   sum and multiple go coordinate by coordinate, every coordinate of zero is zero,
+--                 and two rows are equal when all coordinates below the width are
+-- Assumes nothing.
+use mathlib.Core.Path.{_≡_}
+use Prim.Native.Nat.{ℕ, _<_}
+use Rattle.linear.specs.Field.{Field}
+
+pub record Rows (K V : Type 0) : Type 0 where
+  pub width : ℕ
+  pub none : V
+  pub plus : V → V → V
+  pub times : K → V → V
+  pub coord : V → ℕ → K
+
+pub record RowLaws {K V : Type 0} (F : Field K) (R : Rows K V) : Type 0 where
+  pub coord-none : (i : ℕ) → R .coord (R .none) i ≡ F .zero
+  pub coord-plus : (u v : V) (i : ℕ) → R .coord (R .plus u v) i ≡ F .add (R .coord u i) (R .coord v i)
+  pub coord-times : (c : K) (v : V) (i : ℕ) → R .coord (R .times c v) i ≡ F .mul c (R .coord v i)
+  pub same : (u v : V) → ((i : ℕ) → i < R .width → R .coord u i ≡ R .coord v i) → u ≡ v
