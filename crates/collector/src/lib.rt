@@ -1,3 +1,5 @@
 // The collector for the Koetter-Kschischang subspace code.
+pub mod answers;
 pub mod encoding;
 pub mod refusal;
+pub mod session;

@@ -1,1 +1,3 @@
 pub mod Alphabets
+pub mod Digits
+pub mod Symbols

@@ -2,3 +2,5 @@ pub mod Field
 pub mod Rows
 pub mod Span
 pub mod Reduced
+pub mod Maps
+pub mod Theorems

@@ -1,5 +1,6 @@
 -- Row kinds: rows of a fixed width over a field.
 --   Rows K V      what a kind of row offers: its width, zero, sum, scalar multiple, numbered coordinates
+--   minus F R     v less c times w
 --   RowLaws F R   sum and multiple go coordinate by coordinate, every coordinate of zero is zero,
 --                 and two rows are equal when all coordinates below the width are
 -- Assumes nothing.
@@ -13,6 +14,9 @@ pub record Rows (K V : Type 0) : Type 0 where
   pub plus : V → V → V
   pub times : K → V → V
   pub coord : V → ℕ → K
+
+abbrev pub minus : {K V : Type 0} → Field K → Rows K V → V → K → V → V
+minus F R v c w = R .plus v (R .times (F .neg c) w)
 
 pub record RowLaws {K V : Type 0} (F : Field K) (R : Rows K V) : Type 0 where
   pub coord-none : (i : ℕ) → R .coord (R .none) i ≡ F .zero

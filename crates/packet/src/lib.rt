@@ -1,4 +1,5 @@
 // Packets: what a sender gives out, relays mix and the collector takes.
+pub mod headers;
 pub mod rows;
 
 // A header x and a payload y, symbols of one field.

@@ -1,0 +1,11 @@
+pub mod Fields
+pub mod Rows
+pub mod Spans
+pub mod Dims
+pub mod Sums
+pub mod Maps
+pub mod Stairs
+pub mod Adding
+pub mod Numbered
+pub mod Forms
+pub mod Parts
