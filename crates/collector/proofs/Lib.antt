@@ -1,2 +1,5 @@
 pub mod Sums
 pub mod Codewords
+pub mod Windows
+pub mod Causes
+pub mod Spaces

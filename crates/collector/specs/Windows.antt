@@ -19,7 +19,7 @@ abbrev pub window : {V : Type 0} → (width b : ℕ) → List V → List V
 window width b rows = take width (drop (b * width) rows)
 
 abbrev pub put-window : {V : Type 0} → (width b : ℕ) → List V → List V → List V
-put-window width b new rows = take (b * width) rows ++ (new ++ drop (b * width + width) rows)
+put-window width b new rows = take (b * width) rows ++ (new ++ drop width (drop (b * width) rows))
 
 module _ {K S : Type 0} (A : Alphabet K S) where
   abbrev pub width : ℕ → ℕ

@@ -1,3 +1,7 @@
 pub mod Alphabets
 pub mod Digits
 pub mod Symbols
+pub mod Tables
+pub mod Exponents
+pub mod Elements
+pub mod Extensions

@@ -1,4 +1,10 @@
 // Finite fields, symbol fields over them, and their laws.
+pub mod bit;
+pub mod codes;
+pub mod octet;
+#[cfg(test)]
+mod tests;
+
 ghost use mathlib.Core.Path.{_≡_};
 ghost use Prim.Native.Nat.{ℕ, _/_, _%_, _^_};
 ghost use Rattle.linear.specs.Field.{Field, reciprocal};

@@ -1,0 +1,4 @@
+pub mod Codes
+pub mod Binary
+pub mod Products
+pub mod Coded
