@@ -5,3 +5,4 @@ pub mod Answers
 pub mod Machine
 pub mod Session
 pub mod Runs
+pub mod Examples
