@@ -6,24 +6,21 @@ use Rattle.collector.specs.declared.refusal.Refusal.{Refusal}
 use Rattle.collector.specs.Refusals.{Causes, First, NoCause}
 
 -- the same refusals for equivalent causes
-abbrev pub Alike : Causes → Causes → Type 0
-Alike [] [] = Unit {0}
-Alike [] (d ∷ ds) = ⊥
-Alike (c ∷ cs) [] = ⊥
-Alike (c ∷ cs) (d ∷ ds) = (c .0 ↔ d .0) × (c .1 ≡ d .1) × Alike cs ds
+pub data Alike : Causes → Causes → Type 1 where
+  alike-none : Alike [] []
+  alike-more : {P Q : Type 0} {e : Refusal} {cs ds : Causes} → (P ↔ Q) → Alike cs ds → Alike ((P, e) ∷ cs) ((Q, e) ∷ ds)
 
-pub first-alike : (cs ds : Causes) (e : Refusal) → Alike cs ds → First cs e → First ds e
-first-alike [] [] e a f = f
-first-alike [] (d ∷ ds) e a f = absurd a
-first-alike (c ∷ cs) [] e a f = absurd a
-first-alike (c ∷ cs) (d ∷ ds) e a (inl (p, q)) = inl (a .0 .0 p, q ∙ a .1)
-first-alike (c ∷ cs) (d ∷ ds) e a (inr (n, f)) = inr (λ p. n (a .0 .1 p), first-alike cs ds e (a .2) f)
+pub same-cause : {P : Type 0} → P ↔ P
+same-cause = (λ p. p, λ p. p)
 
-pub none-alike : (cs ds : Causes) → Alike cs ds → NoCause cs → NoCause ds
-none-alike [] [] a n = n
-none-alike [] (d ∷ ds) a n = absurd a
-none-alike (c ∷ cs) [] a n = absurd a
-none-alike (c ∷ cs) (d ∷ ds) a (n, ns) = (λ p. n (a .0 .1 p), none-alike cs ds (a .2) ns)
+pub first-alike : {cs ds : Causes} (e : Refusal) → Alike cs ds → First cs e → First ds e
+first-alike e alike-none f = f
+first-alike e (alike-more a rest) (inl (p, q)) = inl (a .0 p, q)
+first-alike e (alike-more a rest) (inr (n, f)) = inr (λ p. n (a .1 p), first-alike e rest f)
+
+pub none-alike : {cs ds : Causes} → Alike cs ds → NoCause cs → NoCause ds
+none-alike alike-none n = n
+none-alike (alike-more a rest) (n, ns) = (λ p. n (a .1 p), none-alike rest ns)
 
 pub first-parts : (cs ds : Causes) (e : Refusal) → First (cs ++ ds) e → First cs e ⊎ (NoCause cs × First ds e)
 first-parts [] ds e f = inr (tt, f)

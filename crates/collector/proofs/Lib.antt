@@ -3,3 +3,4 @@ pub mod Codewords
 pub mod Windows
 pub mod Causes
 pub mod Spaces
+pub mod Runs

@@ -14,7 +14,7 @@ use Rattle.linearized.specs.Distance.{Distance, Within}
 use Rattle.collector.specs.declared.answers.Taken.{Taken}
 use Rattle.collector.specs.declared.answers.Solved.{Solved}
 use Rattle.collector.specs.Answers.{TakeAnswer, SolveAnswer, solve-causes}
-use Rattle.collector.proofs.Causes.{Alike}
+use Rattle.collector.proofs.Causes.{Alike, alike-none, alike-more, same-cause}
 
 module _ {K V : Type 0} (R : Rows K V) {U W : V → Type 0} (e : (v : V) → U v ↔ W v) (X : V → Type 0) where
   pub sum-same : (v : V) → Sum R U X v ↔ Sum R W X v
@@ -53,16 +53,6 @@ module _ {K S : Type 0} (A : Alphabet K S) {U W : Packet S → Type 0} (e : (p :
 
 pub solve-causes-alike : {K S : Type 0} (A : Alphabet K S) {U W : Packet S → Type 0} → ((p : Packet S) → U p ↔ W p) → (k ℓ r places : ℕ) →
     Alike (solve-causes A k ℓ U r places) (solve-causes A k ℓ W r places)
-solve-causes-alike A e k ℓ r places = ((
-  (λ p. p, λ p. p),
-  refl,
-  (
-    (λ p. p, λ p. p),
-    refl,
-    (
-      (λ p. p, λ p. p),
-      refl,
-      ((λ f u w. f u (within-same A (λ p. (e p .1, e p .0)) w), λ f u w. f u (within-same A e w)), refl, tt),
-    ),
-  ),
-))
+solve-causes-alike A e k ℓ r places =
+    alike-more same-cause (alike-more same-cause (alike-more same-cause
+    (alike-more (λ f u w. f u (within-same A (λ p. (e p .1, e p .0)) w), λ f u w. f u (within-same A e w)) alike-none)))

@@ -7,7 +7,7 @@ use native.Mathlib.Nat.{mul-le-mul-right, suc-mul}
 use native.Mathlib.Decide.{decLt}
 use native.Mathlib.Omega.{arith}
 use lib.ListN.{length, take, drop, length-append, length-take, length-drop}
-use Rattle.std.proofs.shelf.Lists.{take-at, drop-at, drop-take, length-take-le}
+use Rattle.std.proofs.shelf.Lists.{take-at, drop-at, drop-take, length-take-le, take-append-drop}
 use Rattle.std.proofs.shelf.Parts.{take-putMid-below, drop-putMid}
 use Rattle.collector.specs.Windows.{window, put-window}
 
@@ -49,3 +49,7 @@ module _ {V : Type 0} (w b : ℕ) (new rows : List V) (long : length new ≡ w) 
 -- a window of rows that are all there
 pub window-length : {V : Type 0} (w b : ℕ) (rows : List V) → b * w + w ≤ length rows → length (window w b rows) ≡ w
 window-length w b rows h = simp (length-take, length-drop) (omega arith)
+
+-- a window written over itself
+pub put-same : {V : Type 0} (w b : ℕ) (rows : List V) → put-window w b (window w b rows) rows ≡ rows
+put-same w b rows = ap (λ ys. take (b * w) rows ++ ys) (take-append-drop w (drop (b * w) rows)) ∙ take-append-drop (b * w) rows
