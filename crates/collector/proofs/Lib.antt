@@ -1,6 +1,6 @@
 pub mod Sums
 pub mod Codewords
-pub mod Windows
+pub mod Regions
 pub mod Causes
 pub mod Spaces
 pub mod Runs

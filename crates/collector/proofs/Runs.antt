@@ -32,7 +32,7 @@ use Rattle.collector.specs.declared.session.Session.{Session}
 use Rattle.collector.specs.declared.session.Number.{Number}
 use Rattle.collector.specs.declared.session.Number.the-variants.{Shut, Open}
 use Rattle.collector.specs.Refusals.{Causes, First, NoCause}
-use Rattle.collector.specs.Windows.{window, put-window, width, zero-rows, Sound}
+use Rattle.collector.specs.Regions.{window, put-window, width, zero-rows, Sound}
 use Rattle.collector.specs.Answers.{list-limit, packet-of, kept, SolveAnswer, solve-causes}
 use Rattle.collector.specs.Session.{record-of, held, Allowed, Only, Overfull, rows-of, taken-space, Unsound, base-refusals, shut-refusals, Filled}
 use Rattle.collector.specs.Machine.{Cell, shut, holds, Call, opened, took, drained, solved, tallied, closed, Machine, Put, Still, Plain}
@@ -40,7 +40,7 @@ use Rattle.collector.specs.Machine as machine
 use Rattle.collector.specs.Runs.{State, Step, Run, Stands, Represents, Follows, Faithful}
 use Rattle.collector.proofs.Causes.{Alike, alike-none, alike-more, same-cause, first-alike, none-alike, first-parts, none-parts}
 use Rattle.collector.proofs.Spaces.{take-answer-same, solve-answer-same, solve-causes-alike, sum-same}
-use Rattle.collector.proofs.Windows.{window-within, window-length, put-length, put-own, put-later, put-other, put-same}
+use Rattle.collector.proofs.Regions.{window-within, window-length, put-length, put-own, put-later, put-other, put-same}
 
 module _ {S : Type 0} where
   -- one cell changed

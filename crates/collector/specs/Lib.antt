@@ -1,6 +1,6 @@
 pub mod Refusals
 pub mod Encoding
-pub mod Windows
+pub mod Regions
 pub mod Answers
 pub mod Machine
 pub mod Session

@@ -18,7 +18,7 @@ use Rattle.packet.specs.Packets.{packet-rows}
 use Rattle.collector.specs.declared.session.Session.{Session}
 use Rattle.collector.specs.declared.session.Number.{Number}
 use Rattle.collector.specs.declared.session.Number.the-variants.{Shut, Open}
-use Rattle.collector.specs.Windows.{width, zero-rows, Sound}
+use Rattle.collector.specs.Regions.{width, zero-rows, Sound}
 use Rattle.collector.specs.Session.{record-of, rows-of, Allowed, Opened, Took, Drains, Solves, Tallied, Closed}
 use Rattle.collector.specs.Machine.{Cell, shut, holds, Call, opened, took, drained, solved, tallied, closed, Machine, Plain}
 

@@ -28,7 +28,7 @@ use Rattle.collector.specs.declared.session.Session.{Session}
 use Rattle.collector.specs.declared.session.Number.{Number}
 use Rattle.collector.specs.declared.session.Number.the-variants.{Shut, Open}
 use Rattle.collector.specs.Refusals.{Causes, First, NoCause}
-use Rattle.collector.specs.Windows.{window, put-window, width, zero-rows, Sound}
+use Rattle.collector.specs.Regions.{window, put-window, width, zero-rows, Sound}
 use Rattle.collector.specs.Answers.{list-limit, packet-of, TakeAnswer, kept, DrainAnswer, SolveAnswer, solve-causes}
 
 abbrev pub record-of : Session → ℕ → Number

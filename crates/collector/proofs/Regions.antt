@@ -9,7 +9,7 @@ use native.Mathlib.Omega.{arith}
 use lib.ListN.{length, take, drop, length-append, length-take, length-drop}
 use Rattle.std.proofs.shelf.Lists.{take-at, drop-at, drop-take, length-take-le, take-append-drop}
 use Rattle.std.proofs.shelf.Parts.{take-putMid-below, drop-putMid}
-use Rattle.collector.specs.Windows.{window, put-window}
+use Rattle.collector.specs.Regions.{window, put-window}
 
 -- the windows of two numbers lie apart
 pub windows-apart : (w b c : ℕ) → c ≢ b → (c * w + w ≤ b * w) ⊎ (b * w + w ≤ c * w)
