@@ -1,0 +1,17 @@
+pub mod Algebra
+pub mod Frobenius
+pub mod Polynomials
+pub mod Values
+pub mod Counts
+pub mod Compositions
+pub mod Kernels
+pub mod Division
+pub mod Headers
+pub mod Points
+pub mod Pairs
+pub mod Interpolation
+pub mod Codewords
+pub mod Distances
+pub mod Residuals
+pub mod Messages
+pub mod Decoding
