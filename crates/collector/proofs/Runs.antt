@@ -12,7 +12,7 @@ use lib.Seq.{getD-set-same, getD-set-other}
 use borrow.Author.Tests.{eq-eqb, ne-eqb}
 use Rattle.std.specs.declared.result.Result.{Result}
 use Rattle.std.specs.declared.result.Result.the-variants.{Ok, Err}
-use Rattle.std.proofs.shelf.Lists.{length-take-le, drop-take, take-take, take-replicate, drop-replicate}
+use Rattle.std.proofs.shelf.Lists.{length-take-le, take-at, drop-take, take-take, take-replicate, drop-replicate}
 use Rattle.linear.specs.Span.{Span, Spans, Sum, IsDim}
 use Rattle.linear.specs.Reduced.{Reduced}
 use Rattle.linear.proofs.Dims.{dim-same, spans-self}
@@ -40,6 +40,7 @@ use Rattle.collector.specs.Machine as machine
 use Rattle.collector.specs.Runs.{State, Step, Run, Stands, Represents, Follows, Faithful}
 use Rattle.collector.proofs.Causes.{Alike, alike-none, alike-more, same-cause, first-alike, none-alike, first-parts, none-parts}
 use Rattle.collector.proofs.Spaces.{take-answer-same, solve-answer-same, solve-causes-alike, sum-same}
+use Rattle.collector.proofs.Sessions.{number-apart}
 use Rattle.collector.proofs.Regions.{window-within, window-length, put-length, put-own, put-later, put-other, put-same}
 
 module _ {S : Type 0} where
@@ -50,9 +51,6 @@ module _ {S : Type 0} where
   put-is : (m : Machine S) (b : ℕ) (cell : Cell S) → Put m b cell (put m b cell)
   unfolding put
   put-is m b cell = (ap (λ t. cond t cell (m b)) (eq-eqb b b refl), λ c ne. ap (λ t. cond t cell (m c)) (ne-eqb c b ne))
-
-number-apart : {n d : ℕ} → Open n d ≡ Shut → ⊥
-number-apart e = let z : _≡_ {A = ℕ} 0 1 = cc in omega arith
 
 cell-apart : {S : Type 0} {ps : List (Packet S)} → holds ps ≡ shut → ⊥
 cell-apart e = let z : _≡_ {A = ℕ} 0 1 = cc in omega arith
@@ -162,7 +160,8 @@ module _ {K S : Type 0} (A : Alphabet K S) (laws : Lawful A) where
     overfull-cell : (b k : ℕ) → b < 8 → Overfull (s .session) b k ↔ machine.Overfull m b k
     overfull-cell b k h = (
       λ (n, d, e, l). let o = open-cell b n d h e in (o .kept-list, o .is-cell, subst (λ x. list-limit < x + k) (o .is-long) l),
-      λ (ps, c, l). let (n, d, e, long) = open-record b ps h c in (n, d, e, subst (λ x. list-limit < x + k) (sym long) l))
+      λ (ps, c, l). let (n, d, e, long) = open-record b ps h c in (n, d, e, subst (λ x. list-limit < x + k) (sym long) l),
+    )
 
     -- the space of the rows is the span of the list
     same-space : (b n d : ℕ) (o : OpenCell b n d) → record-of (s .session) b ≡ Open n d → (p : Packet S) → taken-space A (s .session) (s .rows) b p ↔ Span (packet-rows A) (o .kept-list) p
@@ -239,10 +238,12 @@ module _ {K S : Type 0} (A : Alphabet K S) (laws : Lawful A) where
 
     on-open : (t : State S) (b : ℕ) (answer : Result (Unit {0}) Refusal) → Step A s (opened b answer) t → Onward (opened b answer) t
     on-open t b (Ok a) ((none, only), rows) =
-        let (h, n) = reach-none b (open-alike b) none in
-        (put m b (holds []), (n, put-is m b (holds [])),
-         changed t b (Open 0 0) (rows-of A (s .session) (s .rows) b) (holds []) h only (rows-long b h)
-         (rows ∙ sym (put-same (width A (s .session .l)) b (s .rows))) (open-stands b h (none .1 .1 .1 .0)))
+        let (h, n) = reach-none b (open-alike b) none in (
+          put m b (holds []),
+          (n, put-is m b (holds [])),
+          changed t b (Open 0 0) (rows-of A (s .session) (s .rows) b) (holds []) h only (rows-long b h)
+              (rows ∙ sym (put-same (width A (s .session .l)) b (s .rows))) (open-stands b h (none .1 .1 .1 .0)),
+        )
     on-open t b (Err e) ((f, same), rows) = (m, (reach-first b e (open-alike b) f, still), stayed t same rows)
 
     -- rows that span the sum of the space and of further packets stand for the longer list
@@ -260,11 +261,12 @@ module _ {K S : Type 0} (A : Alphabet K S) (laws : Lawful A) where
         let o = open-cell b (taking .before) (taking .dimension) h (taking .was) in
         let ps = o .kept-list ++ packet-of A x y ∷ [] in
         let filled = taking .filled in
-        let long : taking .before + 1 ≡ length ps = omega (arith, o .is-long, length-append (o .kept-list) (packet-of A x y ∷ [])) in
-        (put m b (holds ps),
-         (n, (o .kept-list, o .is-cell, take-answer-same A (same-space b (taking .before) (taking .dimension) o (taking .was)) (taking .gives), put-is m b (holds ps))),
-         changed t b (Open (taking .before + 1) (a .dimension)) (filled .new) (holds ps) h (taking .only) (filled .long) (filled .put)
-         (long, filled .sound, longer b (taking .before) (taking .dimension) o (taking .was) (packet-of A x y ∷ []) (a .dimension) (filled .new) (filled .spans)))
+        let long : taking .before + 1 ≡ length ps = omega (arith, o .is-long, length-append (o .kept-list) (packet-of A x y ∷ [])) in (
+          put m b (holds ps),
+          (n, (o .kept-list, o .is-cell, take-answer-same A (same-space b (taking .before) (taking .dimension) o (taking .was)) (taking .gives), put-is m b (holds ps))),
+          changed t b (Open (taking .before + 1) (a .dimension)) (filled .new) (holds ps) h (taking .only) (filled .long) (filled .put)
+              (long, filled .sound, longer b (taking .before) (taking .dimension) o (taking .was) (packet-of A x y ∷ []) (a .dimension) (filled .new) (filled .spans)),
+        )
     on-take t b x y (Err e) (f, (same, rows)) = (m, (reach-first b e (λ h. shut-alike b h (take-alike b x y h)) f, still), stayed t same rows)
 
     on-drain : (t : State S) (b : ℕ) (feed rest : List (Packet S)) (answer : Result Drained Refusal) → Step A s (drained b feed rest answer) t → Onward (drained b feed rest answer) t
@@ -273,10 +275,12 @@ module _ {K S : Type 0} (A : Alphabet K S) (laws : Lawful A) where
         let o = open-cell b (draining .before) (draining .dimension) h (draining .was) in
         let ps = o .kept-list ++ kept A (s .session .l) feed in
         let filled = draining .filled in
-        let long : draining .before + a .kept ≡ length ps = omega (arith, o .is-long, length-append (o .kept-list) (kept A (s .session .l) feed), draining .gives .is-kept) in
-        (put m b (holds ps), (n, draining .emptied, draining .gives, (o .kept-list, o .is-cell, put-is m b (holds ps))),
-         changed t b (Open (draining .before + a .kept) (draining .now)) (filled .new) (holds ps) h (draining .only) (filled .long) (filled .put)
-         (long, filled .sound, longer b (draining .before) (draining .dimension) o (draining .was) (kept A (s .session .l) feed) (draining .now) (filled .new) (filled .spans)))
+        let long : draining .before + a .kept ≡ length ps = omega (arith, o .is-long, length-append (o .kept-list) (kept A (s .session .l) feed), draining .gives .is-kept) in (
+          put m b (holds ps),
+          (n, draining .emptied, draining .gives, (o .kept-list, o .is-cell, put-is m b (holds ps))),
+          changed t b (Open (draining .before + a .kept) (draining .now)) (filled .new) (holds ps) h (draining .only) (filled .long) (filled .put)
+              (long, filled .sound, longer b (draining .before) (draining .dimension) o (draining .was) (kept A (s .session .l) feed) (draining .now) (filled .new) (filled .spans)),
+        )
     on-drain t b feed rest (Err e) (f, left, (same, rows)) =
         (m, (reach-first b e (λ h. shut-alike b h (drain-alike b (length feed) h)) f, left, still), stayed t same rows)
 
@@ -336,13 +340,27 @@ module _ {K S : Type 0} (A : Alphabet K S) (laws : Lawful A) where
         let d = ap held (v .was) in
         let U = taken-space A (s .session) (s .rows) b in
         let causes-d = subst (λ r. NoCause (solve-causes A (s .session .k) (s .session .l) U r (length output))) d causes in
-        let gives-d = subst (λ r. SolveAnswer A (s .session .k) (s .session .l) U r output written a) d gives in
-        (m, (v .not-refused, (v .cell .kept-list, v .d, v .cell .is-cell, held-dim b (v .n) (v .d) (v .cell), none-alike (view-alike b v (length output)) causes-d,
-         solve-answer-same A (same-space b (v .n) (v .d) (v .cell) (v .was)) gives-d), still),
-         stayed t (ap (λ (x : State S). x .session) same) (ap (λ (x : State S). x .rows) same))
-    on-solve t b output written (Err e) ((f, left), same) =
-        (m, (go (first-parts (shut-refusals A (s .session) (s .rows) b) (solve-causes A (s .session .k) (s .session .l) (taken-space A (s .session) (s .rows) b) (held (record-of (s .session) b)) (length output)) e f), left, still),
-         stayed t (ap (λ (x : State S). x .session) same) (ap (λ (x : State S). x .rows) same))
+        let gives-d = subst (λ r. SolveAnswer A (s .session .k) (s .session .l) U r output written a) d gives in (
+          m,
+          (
+            v .not-refused,
+            (
+              v .cell .kept-list,
+              v .d,
+              v .cell .is-cell,
+              held-dim b (v .n) (v .d) (v .cell),
+              none-alike (view-alike b v (length output)) causes-d,
+              solve-answer-same A (same-space b (v .n) (v .d) (v .cell) (v .was)) gives-d,
+            ),
+            still,
+          ),
+          stayed t (ap (λ (x : State S). x .session) same) (ap (λ (x : State S). x .rows) same),
+        )
+    on-solve t b output written (Err e) ((f, left), same) = (
+      m,
+      (go (first-parts (shut-refusals A (s .session) (s .rows) b) (solve-causes A (s .session .k) (s .session .l) (taken-space A (s .session) (s .rows) b) (held (record-of (s .session) b)) (length output)) e f), left, still),
+      stayed t (ap (λ (x : State S). x .session) same) (ap (λ (x : State S). x .rows) same),
+    )
       where
         U : Packet S → Type 0
         U = taken-space A (s .session) (s .rows) b
@@ -397,3 +415,18 @@ module _ {K S : Type 0} (A : Alphabet K S) (laws : Lawful A) where
       → 8 * width A (s .session .l) ≤ length (s .rows) → take (8 * width A (s .session .l)) (s .rows) ≡ zero-rows A (8 * width A (s .session .l)) → Faithful A s
   faithful s allowed all-shut room zeros calls run =
       run-follows (s .session .k) (s .session .l) (drop (8 * width A (s .session .l)) (s .rows)) s (λ _. shut) (fresh-represents s allowed all-shut room zeros) calls run
+
+  -- the same of what `start` gives
+  pub fresh-faithful : (k ℓ : ℕ) (before : List (Packet S)) (s : Session) (rows : List (Packet S)) → Allowed k ℓ (A .m) → 8 * width A ℓ ≤ length before
+      → s ≡ record { k = k; l = ℓ; numbers = replicate 8 Shut } → rows ≡ zero-rows A (8 * width A ℓ) ++ drop (8 * width A ℓ) before
+      → Faithful A (record { session = s; rows = rows })
+  fresh-faithful k ℓ before s rows allowed room e f =
+      let n = 8 * width A ℓ in
+      let zeros = length-replicate n (packet-zero A) in
+      let here : Faithful A (record { session = record { k = k; l = ℓ; numbers = replicate 8 Shut }; rows = zero-rows A n ++ drop n before }) =
+      faithful (record { session = record { k = k; l = ℓ; numbers = replicate 8 Shut }; rows = zero-rows A n ++ drop n before }) allowed refl
+      (omega (arith, length-append (zero-rows A n) (drop n before), zeros)) (take-at (zero-rows A n) (drop n before) n zeros) in
+      subst (λ (x : State S). Faithful A x) (λ i. record { session = sym e i; rows = sym f i }) here
+
+pub ok-same : {s t : Session} → _≡_ {A = Result Session Refusal} (Ok s) (Ok t) → s ≡ t
+ok-same e = cc

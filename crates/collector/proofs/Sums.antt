@@ -3,10 +3,10 @@ use mathlib.Core.Path.{_≡_, sym, ap, _∙_}
 use mathlib.Core.List.{List, [], _∷_, _++_, map, append-assoc}
 use Prim.Native.Nat.{ℕ, _+_, _<_}
 use native.Mathlib.Numerals.{add-one}
-use lib.ListN.{length, getD, set, drop}
+use lib.ListN.{length, getD, set, drop, replicate, length-replicate}
 use native.Mathlib.Nat.{zero-add}
 use Rattle.std.specs.Iters.{counting}
-use Rattle.std.proofs.shelf.Lists.{set-at, drop-more}
+use Rattle.std.proofs.shelf.Lists.{set-at, drop-more, replicate-more}
 use Rattle.std.proofs.shelf.Counted.{length-map-counting, map-counting-more}
 use Rattle.linear.specs.Field.{Field, iterate}
 use Rattle.linearized.specs.Polynomials.{total}
@@ -25,3 +25,9 @@ front-more f xs n d h =
     ap (λ ys. set (front ++ ys) n (f n)) (drop-more xs n d h)
     ∙ set-at front (getD xs n d) (drop (n + 1) xs) (f n) n (length-map-counting f 0 n) ∙ sym (append-assoc front (f n ∷ []) (drop (n + 1) xs))
     ∙ ap (λ ys. ys ++ drop (n + 1) xs) (sym (map-counting-more f 0 n n (zero-add n)))
+
+-- the same with one value
+pub fill-more : {X : Type 0} (x : X) (xs : List X) (n : ℕ) → n < length xs → set (replicate n x ++ drop n xs) n x ≡ replicate (n + 1) x ++ drop (n + 1) xs
+fill-more x xs n h =
+    ap (λ ys. set (replicate n x ++ ys) n x) (drop-more xs n x h) ∙ set-at (replicate n x) (getD xs n x) (drop (n + 1) xs) x n (length-replicate n x)
+    ∙ sym (append-assoc (replicate n x) (x ∷ []) (drop (n + 1) xs)) ∙ ap (λ ys. ys ++ drop (n + 1) xs) (replicate-more n x)

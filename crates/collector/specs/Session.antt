@@ -3,6 +3,7 @@
 --   held             the dimension held: 0 when shut
 --   taken-space      the space that number b's rows span
 --   base-refusals    why any call on a number is refused
+--   Ready            no such reason applies
 --   Only             one number's record changes
 --   Filled           number b's rows become the reduced form of a space, then zeros; all other rows stay
 --   Started, Opened, Took, Drained, Solved, Tallied, Closed    the calls
@@ -76,6 +77,31 @@ module _ {K S : Type 0} (A : Alphabet K S) where
 
   abbrev pub drain-refusals : Session → List (Packet S) → ℕ → List (Packet S) → Causes
   drain-refusals s rows b feed = shut-refusals s rows b ++ ((Overfull s b (length feed), ListFull) ∷ [])
+
+  abbrev pub start-refusals : (k ℓ : ℕ) → List (Packet S) → Causes
+  start-refusals k ℓ rows = (¬ Allowed k ℓ (A .m), Parameters) ∷ (length rows < 8 * width A ℓ, Rows) ∷ []
+
+  abbrev pub Started : (k ℓ : ℕ) → List (Packet S) → Result Session Refusal → List (Packet S) → Type 0
+  Started k ℓ rows (Ok s) after =
+      NoCause (start-refusals k ℓ rows) × (s .k ≡ k) × (s .l ≡ ℓ) × (s .numbers ≡ replicate 8 Shut)
+      × (after ≡ zero-rows A (8 * width A ℓ) ++ drop (8 * width A ℓ) rows)
+  Started k ℓ rows (Err e) after = First (start-refusals k ℓ rows) e × (after ≡ rows)
+
+  -- nothing that every call shares refuses it
+  pub record Ready (s : Session) (rows : List (Packet S)) (b : ℕ) : Type 0 where
+    pub allowed : Allowed (s .k) (s .l) (A .m)
+    pub room : 8 * width A (s .l) ≤ length rows
+    pub below : b < 8
+    pub sound : Sound A (s .l) (held (record-of s b)) (rows-of s rows b)
+
+  -- a look at number b's record, and one that wants it open: what the calls begin with
+  abbrev pub Looked : Session → List (Packet S) → ℕ → Result Number Refusal → Type 0
+  Looked s rows b (Ok number) = Ready s rows b × (record-of s b ≡ number)
+  Looked s rows b (Err e) = First (base-refusals s rows b) e
+
+  abbrev pub Reached : Session → List (Packet S) → ℕ → Result (ℕ × ℕ) Refusal → Type 0
+  Reached s rows b (Ok (taken, dimension)) = Ready s rows b × (record-of s b ≡ Open taken dimension)
+  Reached s rows b (Err e) = First (shut-refusals s rows b) e
 
   pub record Filled (s : Session) (rows : List (Packet S)) (b : ℕ) (U : Packet S → Type 0) (d : ℕ) (after : List (Packet S)) : Type 0 where
     pub new : List (Packet S)

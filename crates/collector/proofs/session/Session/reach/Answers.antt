@@ -1,0 +1,38 @@
+use mathlib.Core.Path.{_≡_, refl, sym, ap, _∙_}
+use mathlib.Core.List.{[], _∷_}
+use mathlib.Core.Logic.{inl, inr}
+use Prim.Native.Nat.{ℕ, _+_, _*_, _<_, _≤_}
+use native.Mathlib.Omega.{arith}
+use lib.ListN.{length}
+use borrow.Author.Needs.{needs}
+use Rattle.std.proofs.shelf.Results.{err-from-errBy}
+use Rattle.field.specs.Alphabet.{Alphabet, alphabet, Lawful}
+use Rattle.collector.specs.declared.refusal.Refusal.the-variants.{NotOpen, AlreadyOpen}
+use Rattle.collector.specs.declared.session.Number.the-variants.{Shut, Open}
+use Rattle.collector.specs.Session.{record-of, base-refusals, shut-refusals}
+use Rattle.collector.proofs.Causes.{first-left}
+use Rattle.collector.proofs.Sessions.{ready-none, ready-first, not-shut, ready-window, width-limit}
+use Rattle.collector.proofs.session.Session.reach.Given as given
+use Rattle.collector.proofs.session.Session.reach.Needs as need
+
+A : (g : given.Over) → Alphabet (g .F·Scalar .Denot) (g .F .Denot)
+A g = alphabet (g .Scalar·FiniteField) (g .F·FiniteField) (g .F·SymbolField)
+
+pub returns-in-Break-look : need.returns-in-Break-look
+unfolding A
+returns-in-Break-look g c =
+    let p = err-from-errBy (c .from-residual .result) (c .from-residual .ensures .1) in
+    let s = c .args .self .now in
+    let b = c .args .number in
+    rw (p .1, p .2) (first-left (base-refusals (A g) s (c .args .rows .now) b) ((record-of s b ≡ Shut, NotOpen) ∷ []) (c .in-Break-look .field-0 .0) (c .in-Break-look .ensures tt))
+
+pub returns-in-Shut : need.returns-in-Shut
+unfolding A
+returns-in-Shut g c =
+    let s = c .args .self .now in
+    let b = c .args .number in
+    let (ready, is) = c .in-Continue-look .ensures tt in
+    ready-first (A g) s (c .args .rows .now) b ready ((record-of s b ≡ Shut, NotOpen) ∷ []) NotOpen (inl (is ∙ c .in-Shut .is, refl))
+
+pub returns-in-Open : need.returns-in-Open
+returns-in-Open g c = let (ready, is) = c .in-Continue-look .ensures tt in (ready, is ∙ c .in-Open .is)
