@@ -5,13 +5,13 @@ use mathlib.Core.Path.{_≡_, refl, sym, ap, ap₂, _∙_, subst}
 use Prim.Native.Nat.{ℕ, zero, suc, _-_, _*_, _/_, _%_, _^_, _<_}
 use native.Mathlib.Nat.{pow-suc, mod-lt, div-eq-of-lt, mod-eq-of-lt}
 use native.Mathlib.Omega.{arith}
-use lib.Bits.{bitXor, xor-assoc, xor-comm, xor-lt, xor-mod, xor-self, xor-zero-r}
+use lib.Bits.{bitXor, xor-assoc, xor-comm, xor-lt, xor-self, xor-zero-r}
 use lib.Pow.{pow-pos, pow-lt}
 use Rattle.linear.specs.Field.{iterate}
 use Rattle.binary.specs.Codes.{bit, pick, product, times-x}
 use Rattle.binary.specs.Binary.{Ring}
-use Rattle.binary.proofs.Sums.{xor-swap, xor-shl, pick-bit-xor, pick-sum, pick-less, sum-same, sum-xor, sum-less, bits}
-use Rattle.binary.proofs.Maps.{Linear, adds-pick, adds-sum, adds-bits, then-linear, iterate-linear, iterate-swap}
+use Rattle.binary.proofs.Sums.{pick-sum, pick-less, sum-same, sum-xor, sum-less, bits}
+use Rattle.binary.proofs.Maps.{Linear, additive-adds, id-additive, times-x-additive, adds-pick, adds-sum, adds-bits, then-linear, iterate-linear, iterate-swap}
 
 pub record Basis (n : ℕ) (T : ℕ → ℕ → ℕ) : Type 0 where
   pub some : 0 < n
@@ -19,14 +19,18 @@ pub record Basis (n : ℕ) (T : ℕ → ℕ → ℕ) : Type 0 where
   pub commute : (i j b : ℕ) → b < 2 ^ n → T i (T j b) ≡ T j (T i b)
   pub at-one : (i : ℕ) → i < n → T i 1 ≡ 2 ^ i
 
-module _ {n : ℕ} {T : ℕ → ℕ → ℕ} (B : Basis n T) where
-  part-less : (a b : ℕ) → b < 2 ^ n → (i : ℕ) → i < n → pick (bit a i) (T i b) < 2 ^ n
-  part-less a b h i l = pick-less n (bit a i) (T i b) (B .linear i .stays b h)
+part-less : {n : ℕ} {T : ℕ → ℕ → ℕ} → ((i : ℕ) → Linear n (T i)) → (a b : ℕ) → b < 2 ^ n → (i : ℕ) → pick (bit a i) (T i b) < 2 ^ n
+part-less {n} {T} linear a b h i = pick-less n (bit a i) (T i b) (linear i .stays b h)
 
+pub product-less : {n : ℕ} {T : ℕ → ℕ → ℕ} → ((i : ℕ) → Linear n (T i)) → (k a b : ℕ) → b < 2 ^ n → product k T a b < 2 ^ n
+unfolding product
+product-less {n} {T} linear k a b h = sum-less n k (λ i. pick (bit a i) (T i b)) (λ i l. part-less linear a b h i)
+
+module _ {n : ℕ} {T : ℕ → ℕ → ℕ} (B : Basis n T) where
   mul-linear : (a : ℕ) → Linear n (product n T a)
   unfolding product
   mul-linear a = record {
-    stays = λ b h. sum-less n n (λ i. pick (bit a i) (T i b)) (part-less a b h);
+    stays = product-less (B .linear) n a;
     adds = λ b c hb hc.
         sum-same n (λ i l. ap (pick (bit a i)) (B .linear i .adds b c hb hc) ∙ pick-sum (bit a i) (T i b) (T i c))
         ∙ sum-xor n (λ i. pick (bit a i) (T i b)) (λ i. pick (bit a i) (T i c));
@@ -41,7 +45,7 @@ module _ {n : ℕ} {T : ℕ → ℕ → ℕ} (B : Basis n T) where
       → (a b : ℕ) → b < 2 ^ n → f (product n T a b) ≡ product n T a (f b)
   unfolding product
   past f p c a b h =
-      adds-sum n f (p .adds) n (λ i. pick (bit a i) (T i b)) (part-less a b h)
+      adds-sum n f (p .adds) n (λ i. pick (bit a i) (T i b)) (λ i l. part-less (B .linear) a b h i)
       ∙ sum-same n (λ i l. adds-pick n f (p .adds) (bit a i) (T i b) ∙ ap (pick (bit a i)) (c i b h))
 
   past-basis : (j a b : ℕ) → b < 2 ^ n → T j (product n T a b) ≡ product n T a (T j b)
@@ -75,13 +79,11 @@ module _ {n : ℕ} {T : ℕ → ℕ → ℕ} (B : Basis n T) where
 
 -- ---- the powers of x
 
-times-x-linear : (n tail : ℕ) → tail < 2 ^ n → Linear n (times-x n tail)
+pub times-x-linear : (n tail : ℕ) → tail < 2 ^ n → Linear n (times-x n tail)
 unfolding times-x
 times-x-linear n tail h = record {
   stays = λ a l. xor-lt n (a * 2 % 2 ^ n) (pick (bit a (n - 1)) tail) (mod-lt (a * 2) (pow-pos n)) (pick-less n (bit a (n - 1)) tail h);
-  adds = λ a b ha hb.
-      ap₂ bitXor (ap (λ (x : ℕ). x % 2 ^ n) (xor-shl 1 a b) ∙ xor-mod (a * 2) (b * 2) n) (pick-bit-xor a b (n - 1) tail)
-      ∙ xor-swap (a * 2 % 2 ^ n) (b * 2 % 2 ^ n) (pick (bit a (n - 1)) tail) (pick (bit b (n - 1)) tail);
+  adds = additive-adds (times-x-additive n tail id-additive) n;
 }
 
 times-x-power : (n tail i : ℕ) → suc i < n → times-x n tail (2 ^ i) ≡ 2 ^ suc i

@@ -2,7 +2,9 @@ pub mod Sums
 pub mod Maps
 pub mod Bases
 pub mod Powers
+pub mod Steps
 pub mod Tests
 pub mod Whole
 pub mod Polynomials
+pub mod Nibbles
 pub mod Lift

@@ -1,14 +1,14 @@
 -- Linear maps of n-bit codes: two that agree at the codes 2 ^ i agree everywhere.
 -- Assumes nothing.
-use mathlib.Core.Path.{_≡_, refl, sym, ap, _∙_}
-use Prim.Native.Nat.{ℕ, zero, suc, _+_, _^_, _<_}
-use native.Mathlib.Nat.{le-refl, zero-add, suc-add, add-comm}
+use mathlib.Core.Path.{_≡_, refl, sym, ap, ap₂, _∙_, subst}
+use Prim.Native.Nat.{ℕ, zero, suc, _+_, _-_, _*_, _/_, _%_, _^_, _≤_, _<_}
+use native.Mathlib.Nat.{le-refl, le-trans, mul-suc, mul-le-mul-left, zero-add, suc-add, add-comm}
 use native.Mathlib.Omega.{arith}
-use lib.Bits.{bitXor, xor-self}
-use lib.Pow.{pow-pos, pow-lt}
+use lib.Bits.{bitXor, bitAnd, xor-self, xor-shr, xor-mod}
+use lib.Pow.{pow-pos, pow-lt, pow-mono, shl-lt}
 use Rattle.linear.specs.Field.{iterate}
-use Rattle.binary.specs.Codes.{bit, pick, sum}
-use Rattle.binary.proofs.Sums.{pick-less, sum-same, sum-less, bits}
+use Rattle.binary.specs.Codes.{bit, pick, sum, times-x, digit}
+use Rattle.binary.proofs.Sums.{xor-swap, xor-shl, and-xor, digit-xor, digit-scalar, digits, pick-bit-xor, pick-less, sum-same, sum-xor, sum-less, bits}
 
 abbrev pub Adds : ℕ → (ℕ → ℕ) → Type 0
 Adds n f = (a b : ℕ) → a < 2 ^ n → b < 2 ^ n → f (bitXor a b) ≡ bitXor (f a) (f b)
@@ -40,10 +40,74 @@ module _ (n : ℕ) (f : ℕ → ℕ) (adds : Adds n f) where
       ∙ adds-sum n (λ i. pick (bit a i) (2 ^ i)) (λ i b. pick-less n (bit a i) (2 ^ i) (pow-lt b))
       ∙ sum-same n (λ i b. adds-pick (bit a i) (2 ^ i))
 
+  -- and the sum of its values at the code's digits
+  pub adds-digits : (s m a : ℕ) → n ≡ s * m → a < 2 ^ n → f a ≡ sum m (λ i. f (digit s i a * 2 ^ (s * i)))
+  adds-digits s m a e h =
+      ap f (digits s m a (subst (λ (k : ℕ). a < 2 ^ k) e h)) ∙ adds-sum m (λ i. digit s i a * 2 ^ (s * i)) part-less
+    where
+      part-less : (i : ℕ) → i < m → digit s i a * 2 ^ (s * i) < 2 ^ n
+      part-less i l =
+          subst (λ (k : ℕ). digit s i a * 2 ^ (s * i) < 2 ^ k) (sym e)
+          (le-trans (shl-lt s (s * i) (digit-scalar s i a)) (pow-mono (subst (λ (k : ℕ). k ≤ s * m) (mul-suc s i ∙ add-comm (s * i) s) (mul-le-mul-left s l))))
+
 pub agree : (n : ℕ) (f g : ℕ → ℕ) → Adds n f → Adds n g → ((i : ℕ) → i < n → f (2 ^ i) ≡ g (2 ^ i))
     → (a : ℕ) → a < 2 ^ n → f a ≡ g a
 agree n f g p q e a h =
     adds-bits n f p a h ∙ sum-same n (λ i b. ap (pick (bit a i)) (e i b)) ∙ sym (adds-bits n g q a h)
+
+-- ---- maps that add all numbers, and how the operators make them
+
+pub record Additive (f : ℕ → ℕ) : Type 0 where
+  pub sums : (a b : ℕ) → f (bitXor a b) ≡ bitXor (f a) (f b)
+
+pub id-additive : Additive (λ a. a)
+id-additive = record { sums = λ a b. refl }
+
+pub xor-additive : {f g : ℕ → ℕ} → Additive f → Additive g → Additive (λ a. bitXor (f a) (g a))
+xor-additive {f} {g} p q = record {
+  sums = λ a b. ap₂ bitXor (p .sums a b) (q .sums a b) ∙ xor-swap (f a) (f b) (g a) (g b);
+}
+
+pub sum-additive : (k : ℕ) {f : ℕ → ℕ → ℕ} → ((i : ℕ) → Additive (f i)) → Additive (λ a. sum k (λ i. f i a))
+sum-additive k {f} p = record {
+  sums = λ a b. sum-same k (λ i l. p i .sums a b) ∙ sum-xor k (λ i. f i a) (λ i. f i b);
+}
+
+pub pick-additive : (i v : ℕ) {f : ℕ → ℕ} → Additive f → Additive (λ a. pick (bit (f a) i) v)
+pick-additive i v {f} p = record {
+  sums = λ a b. ap (λ (x : ℕ). pick (bit x i) v) (p .sums a b) ∙ pick-bit-xor (f a) (f b) i v;
+}
+
+pub digit-additive : (s i : ℕ) {f : ℕ → ℕ} → Additive f → Additive (λ a. digit s i (f a))
+digit-additive s i {f} p = record { sums = λ a b. ap (digit s i) (p .sums a b) ∙ digit-xor s i (f a) (f b) }
+
+pub shl-additive : (k : ℕ) {f : ℕ → ℕ} → Additive f → Additive (λ a. f a * 2 ^ k)
+shl-additive k {f} p = record { sums = λ a b. ap (λ (x : ℕ). x * 2 ^ k) (p .sums a b) ∙ xor-shl k (f a) (f b) }
+
+pub shr-additive : (k : ℕ) {f : ℕ → ℕ} → Additive f → Additive (λ a. f a / 2 ^ k)
+shr-additive k {f} p = record { sums = λ a b. ap (λ (x : ℕ). x / 2 ^ k) (p .sums a b) ∙ xor-shr (f a) (f b) k }
+
+pub mod-additive : (k : ℕ) {f : ℕ → ℕ} → Additive f → Additive (λ a. f a % 2 ^ k)
+mod-additive k {f} p = record { sums = λ a b. ap (λ (x : ℕ). x % 2 ^ k) (p .sums a b) ∙ xor-mod (f a) (f b) k }
+
+pub mask-additive : (m : ℕ) {f : ℕ → ℕ} → Additive f → Additive (λ a. bitAnd (f a) m)
+mask-additive m {f} p = record { sums = λ a b. ap (λ (x : ℕ). bitAnd x m) (p .sums a b) ∙ and-xor (f a) (f b) m }
+
+pub times-x-additive : (n tail : ℕ) {f : ℕ → ℕ} → Additive f → Additive (λ a. times-x n tail (f a))
+unfolding times-x
+times-x-additive n tail p = xor-additive (mod-additive n (shl-additive 1 p)) (pick-additive (n - 1) tail p)
+
+pub additive-adds : {f : ℕ → ℕ} → Additive f → (n : ℕ) → Adds n f
+additive-adds p n a b ha hb = p .sums a b
+
+-- such a map is linear if it keeps the codes 2 ^ i
+pub additive-linear : (n : ℕ) {f : ℕ → ℕ} → Additive f → ((i : ℕ) → i < n → f (2 ^ i) < 2 ^ n) → Linear n f
+additive-linear n {f} p h = record {
+  stays = λ a l.
+      subst (λ (x : ℕ). x < 2 ^ n) (sym (adds-bits n f (additive-adds p n) a l))
+      (sum-less n n (λ i. pick (bit a i) (f (2 ^ i))) (λ i b. pick-less n (bit a i) (f (2 ^ i)) (h i b)));
+  adds = additive-adds p n;
+}
 
 -- ---- one map after another
 

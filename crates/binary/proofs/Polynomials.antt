@@ -11,7 +11,7 @@ use lib.Pow.{pow-lt}
 use Rattle.linear.specs.Field.{iterate}
 use Rattle.binary.specs.Codes.{raise, digit}
 use Rattle.binary.specs.Binary.{Ring, Binary}
-use Rattle.binary.specs.Products.{modulo, bit-product, octet-product, Modulus}
+use Rattle.binary.specs.Products.{modulo, bit-product, hex-product, octet-product, word-product, Modulus}
 use Rattle.binary.proofs.Sums.{digit-less}
 use Rattle.binary.proofs.Bases.{x-basis, basis-ring}
 use Rattle.binary.proofs.Powers.{one-mul, raise-idempotent}
@@ -53,6 +53,17 @@ pub bit-product-and : (a b : ℕ) → a < 2 → b < 2 → bitAnd a b ≡ bit-pro
 unfolding computing
 bit-product-and = computed₂ _ _ 2 2 tt
 
+hex-certificate : List ℕ
+hex-certificate = 6 ∷ 10 ∷ 8 ∷ 0 ∷ []
+
+pub hex-digits-binary : Binary 4 1 4 hex-product
+unfolding computing hex-certificate
+hex-digits-binary = polynomial-binary 4 0x3 (lit< tt) (lit< tt) (λ i. getD hex-certificate i 0) (computed _ _ 4 tt) (computed _ _ 4 tt)
+
+pub hex-modulus : Modulus hex-product 2 4 0x3
+unfolding computing
+hex-modulus = record { places = computed _ _ 4 tt; reduces = refl }
+
 octet-certificate : List ℕ
 octet-certificate = 188 ∷ 42 ∷ 40 ∷ 134 ∷ 44 ∷ 0 ∷ 142 ∷ 222 ∷ []
 
@@ -63,3 +74,15 @@ octets-binary = polynomial-binary 8 0x1b (lit< tt) (lit< tt) (λ i. getD octet-c
 pub octet-modulus : Modulus octet-product 2 8 0x1b
 unfolding computing
 octet-modulus = record { places = computed _ _ 8 tt; reduces = refl }
+
+word-certificate : List ℕ
+word-certificate =
+    350 ∷ 42420 ∷ 42422 ∷ 7412 ∷ 42418 ∷ 10272 ∷ 7420 ∷ 1328 ∷ 42402 ∷ 38610 ∷ 10240 ∷ 5068 ∷ 7356 ∷ 0 ∷ 1456 ∷ 21936 ∷ []
+
+pub words-binary : Binary 16 1 16 word-product
+unfolding computing word-certificate
+words-binary = polynomial-binary 16 0x100b (lit< tt) (lit< tt) (λ i. getD word-certificate i 0) (computed _ _ 16 tt) (computed _ _ 16 tt)
+
+pub word-modulus : Modulus word-product 2 16 0x100b
+unfolding computing
+word-modulus = record { places = computed _ _ 16 tt; reduces = refl }

@@ -2,7 +2,7 @@
 -- Assumes nothing.
 use mathlib.Core.Path.{_≡_, refl, sym, ap, ap₂, _∙_}
 use Prim.Native.Nat.{ℕ, zero, suc, _+_, _*_, _^_, _≤_, _<_}
-use native.Mathlib.Nat.{le-trans, zero-add, suc-add, mul-suc, mul-zero as times-zero, pow-suc}
+use native.Mathlib.Nat.{le-trans, zero-add, suc-add, mul-suc, mul-zero as times-zero, zero-mul as zero-times, suc-mul, pow-suc}
 use native.Mathlib.Omega.{arith}
 use lib.Bits.{bitXor}
 use lib.Pow.{pow-pos, pow-lt}
@@ -64,6 +64,11 @@ module _ {n : ℕ} {mul : ℕ → ℕ → ℕ} (R : Ring n mul) where
       R .mul-assoc a (pow mul a i) (pow mul a j) h (pow-in a h i) (pow-in a h j)
       ∙ ap (mul a) (pow-add a h i j) ∙ ap (pow mul a) (sym (suc-add i j))
 
+  pub pow-times : (a : ℕ) → a < 2 ^ n → (k j : ℕ) → pow mul (pow mul a k) j ≡ pow mul a (j * k)
+  unfolding pow
+  pow-times a h k zero = ap (pow mul a) (sym (zero-times k))
+  pow-times a h k (suc j) = ap (mul (pow mul a k)) (pow-times a h k j) ∙ pow-add a h k (j * k) ∙ ap (pow mul a) (omega (arith, suc-mul j k))
+
   square-linear : Linear n (square mul)
   unfolding square
   square-linear = record {
@@ -86,6 +91,15 @@ module _ {n : ℕ} {mul : ℕ → ℕ → ℕ} (R : Ring n mul) where
   raise-power zero a h = sym (pow-one a h)
   raise-power (suc s) a h =
       ap (λ (x : ℕ). mul x x) (raise-power s a h) ∙ pow-add a h (2 ^ s) (2 ^ s) ∙ ap (pow mul a) (omega (arith, pow-suc 2 s))
+
+-- ---- elements that are powers of a
+
+module _ {n : ℕ} {mul : ℕ → ℕ → ℕ} (R : Ring n mul) (a : ℕ) (h : a < 2 ^ n) where
+  pub power-product : (x y j k : ℕ) → x ≡ pow mul a j → y ≡ pow mul a k → mul x y ≡ pow mul a (j + k)
+  power-product x y j k p q = ap₂ mul p q ∙ pow-add R a h j k
+
+  pub power-raise : (x s k : ℕ) → x ≡ pow mul a k → raise mul s x ≡ pow mul a (2 ^ s * k)
+  power-raise x s k p = ap (raise mul s) p ∙ raise-power R s (pow mul a k) (pow-in R a h k) ∙ pow-times R a h k (2 ^ s)
 
 -- two products that agree at the codes 2 ^ i agree on the codes of both
 pub products-agree : {n s : ℕ} {mul mul′ : ℕ → ℕ → ℕ} → Ring n mul → Ring s mul′ → 2 ^ s ≤ 2 ^ n

@@ -1,11 +1,13 @@
 -- Digits, bits and sums of codes: a code is the sum of its bits.
 -- Assumes nothing.
 use mathlib.Core.Path.{_≡_, refl, sym, ap, ap₂, _∙_, subst}
-use Prim.Native.Nat.{ℕ, zero, suc, _*_, _/_, _%_, _^_, _≤_, _<_}
-use native.Mathlib.Nat.{mul-zero, mul-suc, le-mul-of-pos-right, pow-zero, pow-suc, pow-le-pow-right, le-trans, div-eq-of-lt, zero-mul, one-mul, mod-eq-of-lt, mod-lt, mod-le, zero-lt-suc, mod-one, le-refl, add-zero}
+use Prim.Native.Nat.{ℕ, zero, suc, _+_, _-_, _*_, _/_, _%_, _^_, _≤_, _<_}
+use native.Mathlib.Nat.{mul-zero, mul-suc, le-mul-of-pos-right, pow-zero, pow-suc, pow-le-pow-right, le-trans, div-eq-of-lt, zero-mul, one-mul, mod-eq-of-lt, mod-lt, mod-le, zero-lt-suc, mod-one, div-add-mod', le-refl, add-zero, add-suc, add-comm}
+use native.Mathlib.Numerals.{add-one}
 use native.Mathlib.Omega.{arith}
-use lib.Bits.{bitXor, xor-comm, xor-assoc, xor-self, xor-zero-r, xor-lt, xor-mod, xor-shr, xor-shifted, xor-block}
-use lib.Pow.{pow-pos, pow-mono, pow-add, mod-pow-add, shr-le}
+use lib.Bits.{bitXor, bitAnd, xor-comm, xor-assoc, xor-self, xor-zero-r, xor-lt, xor-mod, xor-shr, xor-shifted, xor-block, and-shr, and-mod}
+use lib.Arith.{bin-ind}
+use lib.Pow.{field, mod-mod-pow, shr-shr, pow-pos, pow-mono, pow-add, mod-pow-add, shr-le}
 use Rattle.binary.specs.Codes.{bit, pick, sum, digit}
 
 pub xor-swap : (a b c d : ℕ) → bitXor (bitXor a b) (bitXor c d) ≡ bitXor (bitXor a c) (bitXor b d)
@@ -17,6 +19,26 @@ xor-swap a b c d =
 pub xor-shl : (k a b : ℕ) → bitXor a b * 2 ^ k ≡ bitXor (a * 2 ^ k) (b * 2 ^ k)
 xor-shl k a b =
     sym (ap₂ bitXor (sym (add-zero (a * 2 ^ k))) (sym (add-zero (b * 2 ^ k))) ∙ xor-block k a b 0 0 (pow-pos k) (pow-pos k) ∙ add-zero (bitXor a b * 2 ^ k))
+
+and-xor-bit : (x y z : ℕ) → x < 2 → y < 2 → z < 2 → bitAnd (bitXor x y) z ≡ bitXor (bitAnd x z) (bitAnd y z)
+and-xor-bit zero y z hx hy hz = refl
+and-xor-bit (suc zero) zero z hx hy hz = sym (xor-zero-r (bitAnd 1 z))
+and-xor-bit (suc zero) (suc zero) z hx hy hz = sym (xor-self (bitAnd 1 z))
+and-xor-bit (suc zero) (suc (suc y)) z hx hy hz = absurd (omega arith)
+and-xor-bit (suc (suc x)) y z hx hy hz = absurd (omega arith)
+
+halves : (x y : ℕ) → x / 2 ≡ y / 2 → x % 2 ≡ y % 2 → x ≡ y
+halves x y p q = sym (div-add-mod' x 2) ∙ ap₂ (λ (a b : ℕ). a * 2 + b) p q ∙ div-add-mod' y 2
+
+pub and-xor : (a b m : ℕ) → bitAnd (bitXor a b) m ≡ bitXor (bitAnd a m) (bitAnd b m)
+and-xor =
+    bin-ind (λ (a : ℕ). (b m : ℕ) → bitAnd (bitXor a b) m ≡ bitXor (bitAnd a m) (bitAnd b m)) (λ b m. refl)
+    (λ a ih b m. halves (bitAnd (bitXor a b) m) (bitXor (bitAnd a m) (bitAnd b m))
+    (and-shr (bitXor a b) m 1 ∙ ap (λ (x : ℕ). bitAnd x (m / 2)) (xor-shr a b 1) ∙ ih (b / 2) (m / 2)
+    ∙ sym (xor-shr (bitAnd a m) (bitAnd b m) 1 ∙ ap₂ bitXor (and-shr a m 1) (and-shr b m 1)))
+    (and-mod (bitXor a b) m 1 ∙ ap (λ (x : ℕ). bitAnd x (m % 2)) (xor-mod a b 1)
+    ∙ and-xor-bit (a % 2) (b % 2) (m % 2) (mod-lt a (zero-lt-suc 1)) (mod-lt b (zero-lt-suc 1)) (mod-lt m (zero-lt-suc 1))
+    ∙ sym (xor-mod (bitAnd a m) (bitAnd b m) 1 ∙ ap₂ bitXor (and-mod a m 1) (and-mod b m 1))))
 
 pub digit-xor : (s i a b : ℕ) → digit s i (bitXor a b) ≡ bitXor (digit s i a) (digit s i b)
 unfolding digit
@@ -62,6 +84,19 @@ digit-less s i n a h = omega (arith, mod-le (a / 2 ^ (s * i)) (2 ^ s), shr-le a 
 pub bit-less : (a i : ℕ) → bit a i < 2
 unfolding bit
 bit-less a i = mod-lt (a / 2 ^ i) (zero-lt-suc 1)
+
+pub bit-none : (a i : ℕ) → a < 2 ^ i → bit a i ≡ 0
+unfolding bit
+bit-none a i h = ap (λ (x : ℕ). x % 2) (div-eq-of-lt h)
+
+-- a digit's bits are the code's
+pub bit-digit : (s i j a : ℕ) → j < s → bit (digit s i a) j ≡ bit a (s * i + j)
+unfolding bit digit
+bit-digit s i j a l =
+    ap (λ (k : ℕ). a / 2 ^ (s * i) % 2 ^ k / 2 ^ j % 2) (let e : s ≡ (s - j - 1 + 1) + j = omega arith in e)
+    ∙ ap (λ (x : ℕ). x % 2) (field (a / 2 ^ (s * i)) (s - j - 1 + 1) j)
+    ∙ mod-mod-pow (a / 2 ^ (s * i) / 2 ^ j) (s - j - 1) 1
+    ∙ ap (λ (x : ℕ). x % 2) (shr-shr a (s * i) j)
 
 bit-xor : (a b i : ℕ) → bit (bitXor a b) i ≡ bitXor (bit a i) (bit b i)
 unfolding bit
@@ -114,14 +149,36 @@ unfolding sum
 sum-less n zero f h = pow-pos n
 sum-less n (suc k) f h = xor-lt n (sum k f) (f k) (sum-less n k f (λ i l. h i (omega arith))) (h k (le-refl (suc k)))
 
-low-bits : (a k : ℕ) → a % 2 ^ k ≡ sum k (λ i. pick (bit a i) (2 ^ i))
-unfolding sum bit
-low-bits a zero = mod-one a
-low-bits a (suc k) =
-    ap (λ (x : ℕ). a % 2 ^ x) (omega arith) ∙ mod-pow-add a 1 k
-    ∙ sym (xor-shifted (a / 2 ^ k % 2) k (a % 2 ^ k) (mod-lt a (pow-pos k)))
-    ∙ xor-comm (a / 2 ^ k % 2 * 2 ^ k) (a % 2 ^ k)
-    ∙ ap₂ bitXor (low-bits a k) (pick-times (a / 2 ^ k % 2) (2 ^ k) (mod-lt (a / 2 ^ k) (zero-lt-suc 1)))
+pub sum-split : (k l : ℕ) (f : ℕ → ℕ) → bitXor (sum k f) (sum l (λ j. f (k + j))) ≡ sum (k + l) f
+unfolding sum
+sum-split k zero f = xor-zero-r (sum k f) ∙ ap (λ (j : ℕ). sum j f) (sym (add-zero k))
+sum-split k (suc l) f =
+    sym (xor-assoc (sum k f) (sum l (λ j. f (k + j))) (f (k + l))) ∙ ap (λ (x : ℕ). bitXor x (f (k + l))) (sum-split k l f)
+    ∙ ap (λ (j : ℕ). sum j f) (sym (add-suc k l))
+
+pub sum-zero : (k : ℕ) (f : ℕ → ℕ) → ((i : ℕ) → i < k → f i ≡ 0) → sum k f ≡ 0
+unfolding sum
+sum-zero zero f h = refl
+sum-zero (suc k) f h = ap₂ bitXor (sum-zero k f (λ i l. h i (omega arith))) (h k (le-refl (suc k)))
+
+pub sum-step : (k : ℕ) (f : ℕ → ℕ) → bitXor (sum k f) (f k) ≡ sum (k + 1) f
+unfolding sum
+sum-step k f = ap (λ (j : ℕ). sum j f) (sym (add-one k))
+
+low-digits : (s a k : ℕ) → a % 2 ^ (s * k) ≡ sum k (λ i. digit s i a * 2 ^ (s * i))
+unfolding sum digit
+low-digits s a zero = ap (λ (x : ℕ). a % 2 ^ x) (mul-zero s) ∙ mod-one a
+low-digits s a (suc k) =
+    ap (λ (x : ℕ). a % 2 ^ x) (mul-suc s k ∙ add-comm (s * k) s) ∙ mod-pow-add a s (s * k)
+    ∙ sym (xor-shifted (digit s k a) (s * k) (a % 2 ^ (s * k)) (mod-lt a (pow-pos (s * k))))
+    ∙ xor-comm (digit s k a * 2 ^ (s * k)) (a % 2 ^ (s * k))
+    ∙ ap (λ (x : ℕ). bitXor x (digit s k a * 2 ^ (s * k))) (low-digits s a k)
+
+pub digits : (s m a : ℕ) → a < 2 ^ (s * m) → a ≡ sum m (λ i. digit s i a * 2 ^ (s * i))
+digits s m a h = sym (mod-eq-of-lt h) ∙ low-digits s a m
 
 pub bits : (n a : ℕ) → a < 2 ^ n → a ≡ sum n (λ i. pick (bit a i) (2 ^ i))
-bits n a h = sym (mod-eq-of-lt h) ∙ low-bits a n
+unfolding digit bit
+bits n a h =
+    digits 1 n a (subst (λ (k : ℕ). a < 2 ^ k) (sym (one-mul n)) h)
+    ∙ sum-same n (λ i l. ap (λ (k : ℕ). a / 2 ^ k % 2 * 2 ^ k) (one-mul i) ∙ pick-times (bit a i) (2 ^ i) (bit-less a i))

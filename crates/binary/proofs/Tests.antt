@@ -7,10 +7,10 @@ use native.Mathlib.Nat.{not-suc-le-zero}
 use native.Mathlib.Decide.{ℕ-discrete}
 use native.Mathlib.Omega.{arith}
 use lib.Bits.{bitXor}
-use lib.Dec.{T, eqb, eqb→eq}
+use lib.Dec.{T, eqb, ltb, eqb→eq, ltb→lt}
 use Rattle.linear.specs.Field.{iterate}
 use Rattle.binary.specs.Codes.{bit, pick, sum, product, times-x, pow, square, raise, digit}
-use Rattle.binary.specs.Products.{modulo, bit-product, octet-product}
+use Rattle.binary.specs.Products.{modulo, bit-product, hex-product, octet-product, word-product, scale-x, times-z, nibble-product}
 
 unfoldable pub both : Bool → Bool → Bool
 both true b = b
@@ -47,6 +47,13 @@ computed f g k t i h = eqb→eq (f i) (g i) (below-at (λ i. eqb (f i) (g i)) k 
 pub computed₂ : (f g : ℕ → ℕ → ℕ) (k l : ℕ) → T (below (λ i. below (λ j. eqb (f i j) (g i j)) l) k) → (i j : ℕ) → i < k → j < l → f i j ≡ g i j
 computed₂ f g k l t i j h = computed (f i) (g i) l (below-at (λ i. below (λ j. eqb (f i j) (g i j)) l) k t i h) j
 
+pub computed₃ : (f g : ℕ → ℕ → ℕ → ℕ) (k l m : ℕ) → T (below (λ i. below (λ j. below (λ o. eqb (f i j o) (g i j o)) m) l) k)
+    → (i j o : ℕ) → i < k → j < l → o < m → f i j o ≡ g i j o
+computed₃ f g k l m t i j o h = computed₂ (f i) (g i) l m (below-at (λ i. below (λ j. below (λ o. eqb (f i j o) (g i j o)) m) l) k t i h) j o
+
+pub computed-less : (f : ℕ → ℕ) (b k : ℕ) → T (below (λ i. ltb (f i) b) k) → (i : ℕ) → i < k → f i < b
+computed-less f b k t i h = ltb→lt (f i) b (below-at (λ i. ltb (f i) b) k t i h)
+
 -- the linear map that takes 2 ^ i to C i
 unfoldable pub apply : ℕ → (ℕ → ℕ) → ℕ → ℕ
 apply n C a = sum n (λ i. pick (bit a i) (C i))
@@ -57,7 +64,7 @@ clear s a = a / 2 ^ s * 2 ^ s
 
 -- what a test computes with
 unfoldable pub computing : ℕ
-unfolding bit pick sum product times-x pow square raise digit modulo bit-product octet-product both below apply clear
+unfolding bit pick sum product times-x pow square raise digit modulo bit-product hex-product octet-product word-product scale-x times-z nibble-product both below apply clear
 computing = 0
 
 -- ---- the facts

@@ -2,27 +2,27 @@
 -- Assumes nothing.
 use mathlib.Core.Path.{_≡_, refl, sym, ap, _∙_}
 use mathlib.Core.Logic.{_≢_}
-use Prim.Native.Nat.{ℕ, zero, suc, _-_, _*_, _/_, _^_, _≤_, _<_}
+use Prim.Native.Nat.{ℕ, zero, suc, _+_, _-_, _*_, _^_, _≤_, _<_}
 use native.Mathlib.Nat.{mod-lt, le-trans}
+use native.Mathlib.Decide.{ℕ-discrete}
 use native.Mathlib.Omega.{arith}
-use lib.Bits.{bitXor, xor-self, xor-shr}
+use lib.Bits.{bitXor, xor-self}
 use lib.Pow.{pow-pos, pow-lt, split}
 use Rattle.linear.specs.Field.{iterate}
-use Rattle.binary.specs.Codes.{bit, pick, pow, raise, digit}
+use Rattle.binary.specs.Codes.{pow, raise, digit}
 use Rattle.binary.specs.Binary.{Ring, Binary}
-use Rattle.binary.proofs.Sums.{scalars-within, xor-swap, xor-shl, digit-xor, digit-less, pick-bit-xor, sum-same, sum-xor}
-use Rattle.binary.proofs.Maps.{Adds, adds-zero, agree, iterate-linear}
-use Rattle.binary.proofs.Powers.{sum-mul, mul-zero, pow-in, raise-linear, raise-power, raise-raise, raise-idempotent}
+use Rattle.binary.proofs.Sums.{scalars-within, xor-swap, digit-xor, digit-less}
+use Rattle.binary.proofs.Maps.{adds-zero, agree, Additive, id-additive, sum-additive, pick-additive, shl-additive, shr-additive, additive-adds, iterate-linear}
+use Rattle.binary.proofs.Powers.{sum-mul, mul-zero, zero-mul, pow-in, pow-add, power-raise, raise-linear, raise-power, raise-raise, raise-idempotent}
 use Rattle.binary.proofs.Tests.{Tests, apply, clear}
 
-apply-adds : (n : ℕ) (C : ℕ → ℕ) (k : ℕ) → Adds k (apply n C)
+apply-additive : (n : ℕ) (C : ℕ → ℕ) → Additive (apply n C)
 unfolding apply
-apply-adds n C k a b ha hb =
-    sum-same n (λ i l. pick-bit-xor a b i (C i)) ∙ sum-xor n (λ i. pick (bit a i) (C i)) (λ i. pick (bit b i) (C i))
+apply-additive n C = sum-additive n (λ i. pick-additive i (C i) id-additive)
 
-clear-adds : (s k : ℕ) → Adds k (clear s)
+clear-additive : (s : ℕ) → Additive (clear s)
 unfolding clear
-clear-adds s k a b ha hb = ap (λ (x : ℕ). x * 2 ^ s) (xor-shr a b s) ∙ xor-shl s (a / 2 ^ s) (b / 2 ^ s)
+clear-additive s = shl-additive s (shr-additive s id-additive)
 
 clear-zero : (s a : ℕ) → clear s a ≡ 0 → a < 2 ^ s
 unfolding clear
@@ -37,16 +37,13 @@ module _ {n s m : ℕ} {mul : ℕ → ℕ → ℕ} (R : Ring n mul) {C : ℕ →
       agree n (λ a. apply n C (bitXor (raise mul s a) a)) (clear s)
       (λ a b ha hb.
       ap (apply n C) (ap (λ (x : ℕ). bitXor x (bitXor a b)) (raise-linear R s .adds a b ha hb) ∙ xor-swap (raise mul s a) (raise mul s b) a b)
-      ∙ apply-adds n C n (bitXor (raise mul s a) a) (bitXor (raise mul s b) b) (moved a ha) (moved b hb))
-      (clear-adds s n) (t .certificate)
-    where
-      moved : (a : ℕ) → a < 2 ^ n → bitXor (raise mul s a) a < 2 ^ n
-      moved a h = R .sum-in (raise mul s a) a (raise-linear R s .stays a h) h
+      ∙ apply-additive n C .sums (bitXor (raise mul s a) a) (bitXor (raise mul s b) b))
+      (additive-adds (clear-additive s) n) (t .certificate)
 
   fixed-scalar : (a : ℕ) → a < 2 ^ n → raise mul s a ≡ a → a < 2 ^ s
   fixed-scalar a h e =
       clear-zero s a
-      (sym (certified a h) ∙ ap (apply n C) (ap (λ (x : ℕ). bitXor x a) e ∙ xor-self a) ∙ adds-zero n (apply n C) (apply-adds n C n))
+      (sym (certified a h) ∙ ap (apply n C) (ap (λ (x : ℕ). bitXor x a) e ∙ xor-self a) ∙ adds-zero n (apply n C) (additive-adds (apply-additive n C) n))
 
   scalars-less : 2 ^ s ≤ 2 ^ n
   scalars-less = scalars-within n s m (R .one-in) (t .size)
@@ -110,3 +107,42 @@ module _ {n s m : ℕ} {mul : ℕ → ℕ → ℕ} (R : Ring n mul) {C : ℕ →
     digit-sum = digit-xor s;
     digit-mul = digit-mul;
   }
+
+-- in a field only zero and one are their own squares
+pub idempotent-small : {n s m : ℕ} {mul : ℕ → ℕ → ℕ} → Binary n s m mul → (e : ℕ) → e < 2 ^ n → mul e e ≡ e → e < 2
+idempotent-small {n} {s} {m} {mul} B e h p =
+    elim (ℕ-discrete e 0) [
+      | yes z ↦ omega arith
+      | no q ↦
+          let v : ℕ = pow mul e (2 ^ n - 2) in
+          let one : e ≡ 1 =
+          sym (B .ring .mul-one e h) ∙ ap (mul e) (sym (B .inverse e h q)) ∙ sym (B .ring .mul-assoc e e v h h (pow-in (B .ring) e h (2 ^ n - 2)))
+          ∙ ap (λ (x : ℕ). mul x v) p ∙ B .inverse e h q in
+          omega arith
+    ]
+
+-- ---- powers in a field
+
+module _ {n s m : ℕ} {mul : ℕ → ℕ → ℕ} (B : Binary n s m mul) (a : ℕ) (h : a < 2 ^ n) (q : a ≢ 0) where
+  cancel : (b : ℕ) → b < 2 ^ n → mul a b ≡ 0 → b ≡ 0
+  cancel b hb z =
+      let v : ℕ = pow mul a (2 ^ n - 2) in
+      let hv : v < 2 ^ n = pow-in (B .ring) a h (2 ^ n - 2) in
+      sym (B .ring .mul-one b hb) ∙ ap (mul b) (sym (B .inverse a h q)) ∙ sym (B .ring .mul-assoc b a v hb h hv)
+      ∙ ap (λ (x : ℕ). mul x v) (B .ring .mul-comm b a hb h ∙ z) ∙ zero-mul (B .ring) v hv
+
+  pub power-not-zero : (k : ℕ) → pow mul a k ≢ 0
+  unfolding pow
+  power-not-zero zero e = omega arith
+  power-not-zero (suc k) e = power-not-zero k (cancel (pow mul a k) (pow-in (B .ring) a h k) e)
+
+  power-whole : pow mul a (2 ^ n - 1) ≡ 1
+  unfolding pow
+  power-whole = ap (pow mul a) (let e : 2 ^ n - 1 ≡ suc (2 ^ n - 2) = omega (arith, B .ring .one-in) in e) ∙ B .inverse a h q
+
+  -- the power (2 ^ n - 1) / (2 ^ s - 1) is a scalar
+  pub norm-scalar : (r : ℕ) → 2 ^ s * r ≡ r + (2 ^ n - 1) → pow mul a r < 2 ^ s
+  norm-scalar r e =
+      B .fixed-scalar (pow mul a r) (pow-in (B .ring) a h r)
+      (power-raise (B .ring) a h (pow mul a r) s r refl ∙ ap (pow mul a) e ∙ sym (pow-add (B .ring) a h r (2 ^ n - 1))
+      ∙ ap (mul (pow mul a r)) power-whole ∙ B .ring .mul-one (pow mul a r) (pow-in (B .ring) a h r))

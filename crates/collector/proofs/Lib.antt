@@ -1,5 +1,13 @@
 pub mod Sums
 pub mod Codewords
+pub mod Vectors
+pub mod LeadingPlaces
+pub mod Remainders
+pub mod Inserting
+pub mod Windows
+pub mod Outcomes
+pub mod Checks
+pub mod Room
 pub mod Regions
 pub mod Causes
 pub mod Spaces

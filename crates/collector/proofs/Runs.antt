@@ -4,6 +4,7 @@ use mathlib.Core.Bool.{Bool, true, false, cond}
 use mathlib.Core.List.{List, [], _∷_, _++_}
 use mathlib.Core.Logic.{_⊎_, inl, inr, ⊎-elim, _≢_, _↔_}
 use Prim.Native.Nat.{ℕ, zero as 0ₙ, suc, _+_, _-_, _*_, _^_, _≤_, _<_}
+use native.Mathlib.Nat.{pow-zero}
 use native.Mathlib.Decide.{ℕ-discrete}
 use native.Mathlib.Omega.{arith}
 use lib.Dec.{eqb}
@@ -13,14 +14,14 @@ use borrow.Author.Tests.{eq-eqb, ne-eqb}
 use Rattle.std.specs.declared.result.Result.{Result}
 use Rattle.std.specs.declared.result.Result.the-variants.{Ok, Err}
 use Rattle.std.proofs.shelf.Lists.{length-take-le, take-at, drop-take, take-take, take-replicate, drop-replicate}
-use Rattle.linear.specs.Span.{Span, Spans, Sum, IsDim}
-use Rattle.linear.specs.Reduced.{Reduced}
+use Rattle.linear.specs.Span.{Each, Span, Spans, Sum, IsDim}
 use Rattle.linear.proofs.Dims.{dim-same, spans-self}
 use Rattle.linear.proofs.Forms.{reduced-dim}
 use Rattle.linear.proofs.Sums.{sum-spans}
 use Rattle.field.specs.Alphabet.{Alphabet, Lawful}
 use Rattle.packet.specs.declared.Packet.{Packet}
 use Rattle.packet.specs.Packets.{packet-rows, packet-zero}
+use Rattle.packet.specs.Headers.{Header-below}
 use Rattle.packet.proofs.Packets.{packet-laws}
 use Rattle.collector.specs.declared.refusal.Refusal.{Refusal}
 use Rattle.collector.specs.declared.refusal.Refusal.the-variants.{BlockNumber, AlreadyOpen, NotOpen, Header, Payload, ListFull}
@@ -32,12 +33,15 @@ use Rattle.collector.specs.declared.session.Session.{Session}
 use Rattle.collector.specs.declared.session.Number.{Number}
 use Rattle.collector.specs.declared.session.Number.the-variants.{Shut, Open}
 use Rattle.collector.specs.Refusals.{Causes, First, NoCause}
-use Rattle.collector.specs.Regions.{window, put-window, width, zero-rows, Sound}
+use Rattle.collector.specs.Windows.{PacketWindow}
+use Rattle.collector.specs.Regions.{window, put-window, width, zero-rows}
 use Rattle.collector.specs.Answers.{list-limit, packet-of, kept, SolveAnswer, solve-causes}
 use Rattle.collector.specs.Session.{record-of, held, Allowed, Only, Overfull, rows-of, taken-space, Unsound, base-refusals, shut-refusals, Filled}
 use Rattle.collector.specs.Machine.{Cell, shut, holds, Call, opened, took, drained, solved, tallied, closed, Machine, Put, Still, Plain}
 use Rattle.collector.specs.Machine as machine
 use Rattle.collector.specs.Runs.{State, Step, Run, Stands, Represents, Follows, Faithful}
+use Rattle.field.proofs.Alphabets.{power-grows}
+use Rattle.collector.proofs.Room.{window-zero}
 use Rattle.collector.proofs.Causes.{Alike, alike-none, alike-more, same-cause, first-alike, none-alike, first-parts, none-parts}
 use Rattle.collector.proofs.Spaces.{take-answer-same, solve-answer-same, solve-causes-alike, sum-same}
 use Rattle.collector.proofs.Sessions.{number-apart}
@@ -71,7 +75,7 @@ module _ {K S : Type 0} (A : Alphabet K S) (laws : Lawful A) where
   -- what a record, its rows and its cell are
   data View (ℓ : ℕ) (number : Number) (w : List (Packet S)) (cell : Cell S) : Type 0 where
     view-shut : number ≡ Shut → cell ≡ shut → w ≡ zero-rows A (width A ℓ) → View ℓ number w cell
-    view-open : (n d : ℕ) (ps : List (Packet S)) → number ≡ Open n d → cell ≡ holds ps → n ≡ length ps → Sound A ℓ d w
+    view-open : (n d : ℕ) (ps : List (Packet S)) → number ≡ Open n d → cell ≡ holds ps → n ≡ length ps → PacketWindow A ℓ d w
         → Spans (packet-rows A) (take d w) (Span (packet-rows A) ps) → View ℓ number w cell
 
   view : (ℓ : ℕ) (number : Number) (w : List (Packet S)) (cell : Cell S) → Stands A ℓ number w cell → View ℓ number w cell
@@ -85,23 +89,22 @@ module _ {K S : Type 0} (A : Alphabet K S) (laws : Lawful A) where
       subst (λ number. Stands A ℓ number v c) (sym e) (subst (λ rows. Stands A ℓ y rows c) (sym f) (subst (Stands A ℓ y w) (sym g) h))
 
   -- zeros are the reduced form of nothing
-  zeros-sound : (ℓ n : ℕ) → Sound A ℓ 0 (zero-rows A n)
-  zeros-sound ℓ n = record {
-    room = omega arith;
-    reduced = record { at = []; many = refl; leads = λ i h. absurd (omega arith); rise = λ i j h l. absurd (omega arith); others = λ i j h l ne. absurd (omega arith) };
-    headers = tt;
-    zeros = let e : n ≡ length (zero-rows A n) - 0 = omega (arith, length-replicate n (packet-zero A)) in ap (zero-rows A) e;
-  }
+  zeros-sound : (ℓ n : ℕ) → PacketWindow A ℓ 0 (zero-rows A n)
+  zeros-sound ℓ n = (window-zero (packet-laws laws) n, headers n)
+    where
+      headers : (n : ℕ) → Each (Header-below A ℓ) (zero-rows A n)
+      headers 0ₙ = tt
+      headers (suc n) = (subst (λ c. c < A .q ^ ℓ) (sym (laws .codes .code-zero)) (omega (arith, pow-zero (A .q), power-grows laws 0 ℓ (omega arith))), headers n)
 
   module _ (s : State S) (m : Machine S) (later : List (Packet S)) (r : Represents A (s .session .k) (s .session .l) later s m) where
     at : (b : ℕ) → b < 8 → View (s .session .l) (record-of (s .session) b) (rows-of A (s .session) (s .rows) b) (m b)
     at b h = view (s .session .l) (record-of (s .session) b) (rows-of A (s .session) (s .rows) b) (m b) (r .each b h)
 
-    sound-at : (b : ℕ) → View (s .session .l) (record-of (s .session) b) (rows-of A (s .session) (s .rows) b) (m b) → Sound A (s .session .l) (held (record-of (s .session) b)) (rows-of A (s .session) (s .rows) b)
+    sound-at : (b : ℕ) → View (s .session .l) (record-of (s .session) b) (rows-of A (s .session) (s .rows) b) (m b) → PacketWindow A (s .session .l) (held (record-of (s .session) b)) (rows-of A (s .session) (s .rows) b)
     sound-at b (view-shut e c z) =
-        subst (λ number. Sound A (s .session .l) (held number) (rows-of A (s .session) (s .rows) b)) (sym e)
-        (subst (Sound A (s .session .l) 0) (sym z) (zeros-sound (s .session .l) (width A (s .session .l))))
-    sound-at b (view-open n d ps e c l o t) = subst (λ number. Sound A (s .session .l) (held number) (rows-of A (s .session) (s .rows) b)) (sym e) o
+        subst (λ number. PacketWindow A (s .session .l) (held number) (rows-of A (s .session) (s .rows) b)) (sym e)
+        (subst (PacketWindow A (s .session .l) 0) (sym z) (zeros-sound (s .session .l) (width A (s .session .l))))
+    sound-at b (view-open n d ps e c l o t) = subst (λ number. PacketWindow A (s .session .l) (held number) (rows-of A (s .session) (s .rows) b)) (sym e) o
 
     sound : (b : ℕ) → ¬ Unsound A (s .session) (s .rows) b
     sound b (inl short) = omega (arith, r .room)
@@ -130,7 +133,7 @@ module _ {K S : Type 0} (A : Alphabet K S) (laws : Lawful A) where
       kept-list : List (Packet S)
       is-cell : m b ≡ holds kept-list
       is-long : n ≡ length kept-list
-      is-sound : Sound A (s .session .l) d (rows-of A (s .session) (s .rows) b)
+      is-sound : PacketWindow A (s .session .l) d (rows-of A (s .session) (s .rows) b)
       is-span : Spans (packet-rows A) (take d (rows-of A (s .session) (s .rows) b)) (Span (packet-rows A) kept-list)
 
     open-cell : (b n d : ℕ) → b < 8 → record-of (s .session) b ≡ Open n d → OpenCell b n d
@@ -145,7 +148,7 @@ module _ {K S : Type 0} (A : Alphabet K S) (laws : Lawful A) where
               kept-list = ps;
               is-cell = cell;
               is-long = sym same-n ∙ l;
-              is-sound = subst (λ x. Sound A (s .session .l) x (rows-of A (s .session) (s .rows) b)) same-d o;
+              is-sound = subst (λ x. PacketWindow A (s .session .l) x (rows-of A (s .session) (s .rows) b)) same-d o;
               is-span = subst (λ x. Spans (packet-rows A) (take x (rows-of A (s .session) (s .rows) b)) (Span (packet-rows A) ps)) same-d t;
             }
 
@@ -233,7 +236,7 @@ module _ {K S : Type 0} (A : Alphabet K S) (laws : Lawful A) where
     open-stands b h not-open = go (at b h)
       where
         go : View (s .session .l) (record-of (s .session) b) (rows-of A (s .session) (s .rows) b) (m b) → Stands A (s .session .l) (Open 0 0) (rows-of A (s .session) (s .rows) b) (holds [])
-        go (view-shut e c z) = (refl, subst (Sound A (s .session .l) 0) (sym z) (zeros-sound (s .session .l) (width A (s .session .l))), spans-self (packet-rows A) [])
+        go (view-shut e c z) = (refl, subst (PacketWindow A (s .session .l) 0) (sym z) (zeros-sound (s .session .l) (width A (s .session .l))), spans-self (packet-rows A) [])
         go (view-open n d ps e c l o t) = absurd (not-open (n, d, e))
 
     on-open : (t : State S) (b : ℕ) (answer : Result (Unit {0}) Refusal) → Step A s (opened b answer) t → Onward (opened b answer) t
@@ -295,8 +298,8 @@ module _ {K S : Type 0} (A : Alphabet K S) (laws : Lawful A) where
     -- the dimension held is that of the list's span
     held-dim : (b n d : ℕ) (o : OpenCell b n d) → IsDim (packet-rows A) (Span (packet-rows A) (o .kept-list)) d
     held-dim b n d o =
-        subst (IsDim (packet-rows A) (Span (packet-rows A) (o .kept-list))) (length-take-le d (rows-of A (s .session) (s .rows) b) (o .is-sound .room))
-        (reduced-dim (packet-laws laws) (o .is-sound .reduced, o .is-span))
+        subst (IsDim (packet-rows A) (Span (packet-rows A) (o .kept-list))) (length-take-le d (rows-of A (s .session) (s .rows) b) (o .is-sound .0 .within))
+        (reduced-dim (packet-laws laws) (o .is-sound .0 .reduced, o .is-span))
 
     on-tally : (t : State S) (b : ℕ) (answer : Result Tally Refusal) → Step A s (tallied b answer) t → Onward (tallied b answer) t
     on-tally t b (Ok a) ((none, is), same) =

@@ -13,7 +13,8 @@ use Rattle.collector.specs.declared.refusal.Refusal.{Refusal}
 use Rattle.collector.specs.declared.session.Session.{Session}
 use Rattle.collector.specs.declared.session.Number.the-variants.{Shut, Open}
 use Rattle.collector.specs.Refusals.{Causes, First, NoCause}
-use Rattle.collector.specs.Regions.{width, window, put-window, zero-rows, Sound}
+use Rattle.collector.specs.Windows.{PacketWindow}
+use Rattle.collector.specs.Regions.{width, window, put-window, zero-rows}
 use Rattle.collector.specs.Session.{record-of, Unsound, base-refusals, Ready}
 use Rattle.collector.proofs.Causes.{first-right, none-join}
 use Rattle.collector.proofs.Regions.{window-within, window-length}
@@ -68,8 +69,8 @@ module _ {K S : Type 0} (A : Alphabet K S) (ℓ m : ℕ) (rows new : List (Packe
 
 -- a window seen as a part of the rows
 pub seen-sound : {K S : Type 0} (A : Alphabet K S) (ℓ m b d held : ℕ) (rows : List (Packet S)) → m ≡ A .m → d ≡ held
-    → Sound A ℓ d (take (b * (ℓ + m) + (ℓ + m) - b * (ℓ + m)) (drop (b * (ℓ + m)) rows)) → Sound A ℓ held (window (width A ℓ) b rows)
+    → PacketWindow A ℓ d (take (b * (ℓ + m) + (ℓ + m) - b * (ℓ + m)) (drop (b * (ℓ + m)) rows)) → PacketWindow A ℓ held (window (width A ℓ) b rows)
 seen-sound A ℓ m b d held rows e f h =
     let long : b * (ℓ + m) + (ℓ + m) - b * (ℓ + m) ≡ ℓ + m = omega arith in
-    subst (λ x. Sound A ℓ held (window (ℓ + x) b rows)) e
-    (subst (λ n. Sound A ℓ held (take n (drop (b * (ℓ + m)) rows))) long (subst (λ n. Sound A ℓ n (take (b * (ℓ + m) + (ℓ + m) - b * (ℓ + m)) (drop (b * (ℓ + m)) rows))) f h))
+    subst (λ x. PacketWindow A ℓ held (window (ℓ + x) b rows)) e
+    (subst (λ n. PacketWindow A ℓ held (take n (drop (b * (ℓ + m)) rows))) long (subst (λ n. PacketWindow A ℓ n (take (b * (ℓ + m) + (ℓ + m) - b * (ℓ + m)) (drop (b * (ℓ + m)) rows))) f h))

@@ -1,5 +1,7 @@
 pub mod Refusals
 pub mod Encoding
+pub mod Places
+pub mod Windows
 pub mod Regions
 pub mod Answers
 pub mod Machine

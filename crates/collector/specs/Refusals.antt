@@ -1,6 +1,5 @@
 -- Refusals: why a call gives no answer.
 --   number        the number of each refusal
---   dimension     the dimension that a refusal gives beside its number, if any
 --   first-cause   of the causes in their order, the refusal of the first that applies, where causes are tests
 --   answered      a call's answer: refused, or done with what it gives
 --   Causes        causes in the order in which they are judged, each with its refusal, where causes are facts

@@ -18,7 +18,8 @@ use Rattle.packet.specs.Packets.{packet-rows}
 use Rattle.collector.specs.declared.session.Session.{Session}
 use Rattle.collector.specs.declared.session.Number.{Number}
 use Rattle.collector.specs.declared.session.Number.the-variants.{Shut, Open}
-use Rattle.collector.specs.Regions.{width, zero-rows, Sound}
+use Rattle.collector.specs.Windows.{PacketWindow}
+use Rattle.collector.specs.Regions.{width, zero-rows}
 use Rattle.collector.specs.Session.{record-of, rows-of, Allowed, Opened, Took, Drains, Solves, Tallied, Closed}
 use Rattle.collector.specs.Machine.{Cell, shut, holds, Call, opened, took, drained, solved, tallied, closed, Machine, Plain}
 
@@ -44,7 +45,7 @@ module _ {K S : Type 0} (A : Alphabet K S) where
   Stands ℓ Shut rows (holds ps) = ⊥
   Stands ℓ (Open taken dimension) rows shut = ⊥
   Stands ℓ (Open taken dimension) rows (holds ps) =
-      (taken ≡ length ps) × Sound A ℓ dimension rows × Spans (packet-rows A) (take dimension rows) (Span (packet-rows A) ps)
+      (taken ≡ length ps) × PacketWindow A ℓ dimension rows × Spans (packet-rows A) (take dimension rows) (Span (packet-rows A) ps)
 
   -- `later` are the rows after the eight windows
   pub record Represents (k ℓ : ℕ) (later : List (Packet S)) (s : State S) (m : Machine S) : Type 0 where

@@ -29,7 +29,8 @@ use Rattle.collector.specs.declared.session.Session.{Session}
 use Rattle.collector.specs.declared.session.Number.{Number}
 use Rattle.collector.specs.declared.session.Number.the-variants.{Shut, Open}
 use Rattle.collector.specs.Refusals.{Causes, First, NoCause}
-use Rattle.collector.specs.Regions.{window, put-window, width, zero-rows, Sound}
+use Rattle.collector.specs.Windows.{PacketWindow}
+use Rattle.collector.specs.Regions.{window, put-window, width, zero-rows}
 use Rattle.collector.specs.Answers.{list-limit, packet-of, TakeAnswer, kept, DrainAnswer, SolveAnswer, solve-causes}
 
 abbrev pub record-of : Session → ℕ → Number
@@ -60,7 +61,7 @@ module _ {K S : Type 0} (A : Alphabet K S) where
 
   -- too few rows, or number b's are not what the session holds
   abbrev pub Unsound : Session → List (Packet S) → ℕ → Type 0
-  Unsound s rows b = (length rows < 8 * width A (s .l)) ⊎ ((b < 8) × (¬ Sound A (s .l) (held (record-of s b)) (rows-of s rows b)))
+  Unsound s rows b = (length rows < 8 * width A (s .l)) ⊎ ((b < 8) × (¬ PacketWindow A (s .l) (held (record-of s b)) (rows-of s rows b)))
 
   abbrev pub base-refusals : Session → List (Packet S) → ℕ → Causes
   base-refusals s rows b = (¬ Allowed (s .k) (s .l) (A .m), Parameters) ∷ (Unsound s rows b, Rows) ∷ (8 ≤ b, BlockNumber) ∷ []
@@ -92,7 +93,7 @@ module _ {K S : Type 0} (A : Alphabet K S) where
     pub allowed : Allowed (s .k) (s .l) (A .m)
     pub room : 8 * width A (s .l) ≤ length rows
     pub below : b < 8
-    pub sound : Sound A (s .l) (held (record-of s b)) (rows-of s rows b)
+    pub sound : PacketWindow A (s .l) (held (record-of s b)) (rows-of s rows b)
 
   -- a look at number b's record, and one that wants it open: what the calls begin with
   abbrev pub Looked : Session → List (Packet S) → ℕ → Result Number Refusal → Type 0
@@ -106,7 +107,7 @@ module _ {K S : Type 0} (A : Alphabet K S) where
   pub record Filled (s : Session) (rows : List (Packet S)) (b : ℕ) (U : Packet S → Type 0) (d : ℕ) (after : List (Packet S)) : Type 0 where
     pub new : List (Packet S)
     pub long : length new ≡ width A (s .l)
-    pub sound : Sound A (s .l) d new
+    pub sound : PacketWindow A (s .l) d new
     pub spans : Spans (packet-rows A) (take d new) U
     pub put : after ≡ put-window (width A (s .l)) b new rows
 

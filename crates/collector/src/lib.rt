@@ -1,8 +1,14 @@
 // The collector for the Koetter-Kschischang subspace code.
-pub mod answers;
+mod adding;
+mod answers;
+mod code_row;
 pub mod encoding;
 pub mod examples;
+mod packet_row;
 pub mod refusal;
-pub mod session;
+mod row;
+mod scalar;
+mod session;
 #[cfg(test)]
 mod tests;
+mod window;

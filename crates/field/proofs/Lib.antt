@@ -5,3 +5,4 @@ pub mod Tables
 pub mod Exponents
 pub mod Elements
 pub mod Extensions
+pub mod LinearMaps

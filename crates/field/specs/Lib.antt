@@ -1,6 +1,10 @@
 pub mod Laws
 pub mod Alphabet
 pub mod Symbols
+pub mod Images
 pub mod Bit
+pub mod HexDigit
 pub mod Octet
+pub mod Word
+pub mod Nibble
 pub mod Alphabets

@@ -1,9 +1,14 @@
 // Finite fields, symbol fields over them, and their laws.
 pub mod bit;
 pub mod codes;
+pub mod hex;
+mod images;
+pub mod nibble;
 pub mod octet;
+mod polynomials;
 #[cfg(test)]
 mod tests;
+pub mod word;
 
 ghost use mathlib.Core.Path.{_≡_};
 ghost use Prim.Native.Nat.{ℕ, _/_, _%_, _^_};

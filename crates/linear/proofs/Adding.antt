@@ -1,5 +1,4 @@
 -- A row more in a reduced list, and so a reduced form of every list.
---   cleared u p v       v less what makes it other than zero at p, where u is one
 --   Inserted p u L M    M is L with u at its place: the rows that lead before p are cleared there
 --   Remainder L v       v less a row of the span of L, zero at every place of L
 --   First v p           p is the first place at which v is not zero
@@ -10,7 +9,7 @@ use Prim.Native.Nat.{ℕ, zero as 0ₙ, suc, _≤_, _<_}
 use native.Mathlib.Omega.{arith}
 use native.Mathlib.Decide.{decLt, ℕ-discrete}
 use Rattle.linear.specs.Field.{Field}
-use Rattle.linear.specs.Rows.{Rows, RowLaws, minus}
+use Rattle.linear.specs.Rows.{Rows, RowLaws, minus, cleared}
 use Rattle.linear.specs.Span.{Each}
 use Rattle.linear.specs.Reduced.{Leads}
 use Rattle.linear.proofs.Fields.{mul-zero}
@@ -19,12 +18,9 @@ use Rattle.linear.proofs.Spans.{InSpan, span-nil, span-cons, Within, within-ni
 use Rattle.linear.proofs.Stairs.{ZeroAt, Stairs, stairs-nil, stairs-cons, stairs-before, stairs-zero}
 
 module _ {K V : Type 0} (F : Field K) (R : Rows K V) where
-  abbrev pub cleared : V → ℕ → V → V
-  cleared u p v = minus F R v (R .coord v p) u
-
   pub data Inserted (p : ℕ) (u : V) : List ℕ → List V → List ℕ → List V → Type 0 where
     inserted-here : {ps : List ℕ} {L : List V} → Each (λ q. p < q) ps → Inserted p u ps L (p ∷ ps) (u ∷ L)
-    inserted-later : {q : ℕ} {ps qs : List ℕ} {v : V} {L M : List V} → q < p → Inserted p u ps L qs M → Inserted p u (q ∷ ps) (v ∷ L) (q ∷ qs) (cleared u p v ∷ M)
+    inserted-later : {q : ℕ} {ps qs : List ℕ} {v : V} {L M : List V} → q < p → Inserted p u ps L qs M → Inserted p u (q ∷ ps) (v ∷ L) (q ∷ qs) (cleared F R u p v ∷ M)
 
   -- ps are the places of L
   pub record Remainder (ps : List ℕ) (L : List V) (v : V) : Type 0 where

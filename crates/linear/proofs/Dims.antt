@@ -8,8 +8,8 @@ use native.Mathlib.Omega.{arith}
 use lib.ListN.{length}
 use Rattle.linear.specs.Field.{Field}
 use Rattle.linear.specs.Rows.{Rows, RowLaws}
-use Rattle.linear.specs.Span.{Span, Spans, IsDim}
-use Rattle.linear.proofs.Spans.{InSpan, Within, Indep, indep-cons, to-span, from-span, span-trans, within-skip, within-refl, within-all, within-head, within-known, replace, indep-shorter, shortest-indep}
+use Rattle.linear.specs.Span.{Span, Spans, SameSpan, IsDim}
+use Rattle.linear.proofs.Spans.{InSpan, Within, Indep, indep-cons, to-span, from-span, span-trans, within-skip, within-refl, within-all, within-head, within-known, within-same, replace, indep-shorter, shortest-indep}
 
 pub record Basis {K V : Type 0} (R : Rows K V) (U : V → Type 0) (d : ℕ) : Type 0 where
   pub rows : List V
@@ -100,11 +100,8 @@ module _ {K V : Type 0} {F : Field K} {R : Rows K V} (laws : RowLaws F R) where
       } in basis-dim B
 
   -- and inside
-  pub span-known : (L : List V) {v : V} → Span R L v → (u : V) → Span R L u ↔ Span R (v ∷ L) u
-  span-known L {v} s u = (
-    λ x. to-span (span-trans laws (within-skip laws v (within-refl laws L)) (from-span L x)),
-    λ x. to-span (span-trans laws (within-known laws (from-span L s)) (from-span (v ∷ L) x)),
-  )
+  pub span-known : (L : List V) {v : V} → Span R L v → SameSpan R L (v ∷ L)
+  span-known L {v} s = within-same laws (within-skip laws v (within-refl laws L)) (within-known laws (from-span L s))
 
   pub dim-known : (L : List V) {v : V} {d : ℕ} → IsDim R (Span R L) d → Span R L v → IsDim R (Span R (v ∷ L)) d
   dim-known L hd s = dim-same R (span-known L s) hd

@@ -1,6 +1,9 @@
 -- What the laws of a field give.
 use mathlib.Core.Path.{_≡_, sym, ap, ap₂, _∙_}
-use Rattle.linear.specs.Field.{Field}
+use Prim.Native.Nat.{ℕ}
+use native.Mathlib.Omega.{arith}
+use Rattle.std.specs.declared.option.Option.the-variants.{Some, None}
+use Rattle.linear.specs.Field.{Field, reciprocal, reciprocal-if}
 
 module _ {K : Type 0} (F : Field K) where
   open Field F using (zero, one, add, neg, mul, inv)
@@ -65,3 +68,18 @@ module _ {K : Type 0} (F : Field K) where
   pub term-shift : (c x y w : K) → add (mul c y) w ≡ add (mul c (add y (mul (neg one) x))) (add w (mul c x))
   term-shift c x y w =
       sym (rw (F .mul-add, mul-left-comm c (neg one) x, neg-mul, one-mul, F .add-assoc, add-left-comm (neg (mul c x)) w (mul c x), neg-add, F .add-zero))
+
+  -- a reciprocal is absent of zero only
+  pub reciprocal-none : (x : K) → reciprocal F x ≡ None → x ≡ zero
+  reciprocal-none x = go (F .same? x zero)
+    where
+      go : (d : Dec (x ≡ zero)) → reciprocal-if F x d ≡ None → x ≡ zero
+      go (yes z) e = z
+      go (no z) e = let c : _≡_ {A = ℕ} 0 1 = cc in absurd (let b : ⊥ = omega arith in b)
+
+  pub reciprocal-some : (x y : K) → reciprocal F x ≡ Some y → (¬ (x ≡ zero)) × (y ≡ inv x)
+  reciprocal-some x y = go (F .same? x zero)
+    where
+      go : (d : Dec (x ≡ zero)) → reciprocal-if F x d ≡ Some y → (¬ (x ≡ zero)) × (y ≡ inv x)
+      go (yes z) e = let c : _≡_ {A = ℕ} 0 1 = cc in absurd (let b : ⊥ = omega arith in b)
+      go (no z) e = (z, cc)

@@ -1,3 +1,4 @@
+pub mod Each
 pub mod Fields
 pub mod Rows
 pub mod Spans

@@ -6,19 +6,9 @@ use native.Mathlib.Omega.{arith}
 use lib.ListN.{length, getD}
 use Rattle.linear.specs.Field.{Field}
 use Rattle.linear.specs.Rows.{Rows}
-use Rattle.linear.specs.Span.{Each}
 use Rattle.linear.specs.Reduced.{Leads, Reduced}
+use Rattle.linear.proofs.Each.{each-at, each-from}
 use Rattle.linear.proofs.Stairs.{Stairs, stairs-nil, stairs-cons}
-
-module _ {X : Type 0} (P : X → Type 0) (d : X) where
-  pub each-at : (xs : List X) → Each P xs → (i : ℕ) → i < length xs → P (getD xs i d)
-  each-at [] e i h = absurd (omega arith)
-  each-at (x ∷ xs) (p, e) zero h = p
-  each-at (x ∷ xs) (p, e) (suc i) h = each-at xs e i (omega arith)
-
-  pub each-from : (xs : List X) → ((i : ℕ) → i < length xs → P (getD xs i d)) → Each P xs
-  each-from [] f = tt
-  each-from (x ∷ xs) f = (f zero (omega arith), each-from xs (λ i h. f (suc i) (omega arith)))
 
 module _ {K V : Type 0} {F : Field K} {R : Rows K V} where
   open Rows R using (none, coord)

@@ -4,12 +4,12 @@
 --   Indep L       no row of L is in the span of those after it
 use mathlib.Core.Path.{_≡_, refl, sym, ap, ap₂, subst, _∙_}
 use mathlib.Core.List.{List, [], _∷_, _++_}
-use Prim.Native.Nat.{suc, _+_, _≤_}
+use Prim.Native.Nat.{ℕ, zero as 0ₙ, suc, _+_, _≤_, _<_}
 use native.Mathlib.Omega.{arith}
-use lib.ListN.{length}
+use lib.ListN.{length, getD}
 use Rattle.linear.specs.Field.{Field}
 use Rattle.linear.specs.Rows.{Rows, RowLaws, minus}
-use Rattle.linear.specs.Span.{Each, combination, Span, Independent}
+use Rattle.linear.specs.Span.{Each, combination, Span, SameSpan, Independent}
 use Rattle.linear.proofs.Fields.{neg-one-not-zero}
 use Rattle.linear.proofs.Rows.{plus-none, none-plus, plus-comm, plus-assoc, times-none, term-one, term-skip, term-plus, term-times, term-solve, minus-self}
 
@@ -78,6 +78,11 @@ module _ {K V : Type 0} {F : Field K} {R : Rows K V} (laws : RowLaws F R) where
   pub span-skip : (b : V) {B : List V} {v : V} → InSpan R B v → InSpan R (b ∷ B) v
   span-skip b {v = v} s = span-cons zero v (term-skip laws b v) s
 
+  pub span-at : (L : List V) (i : ℕ) → i < length L → InSpan R L (getD L i none)
+  span-at [] i h = absurd (omega arith)
+  span-at (v ∷ L) 0ₙ h = span-head v L
+  span-at (v ∷ L) (suc i) h = span-skip v (span-at L i (omega arith))
+
   -- a term of weight zero
   pub span-drop : {b : V} {B : List V} {v w : V} {c : K} → v ≡ plus (times c b) w → c ≡ zero → InSpan R B w → InSpan R B v
   span-drop {b} {B} {v} {w} e z s = subst (InSpan R B) (term-skip laws b w ∙ ap (λ k. plus (times k b) w) (sym z) ∙ sym e) s
@@ -109,6 +114,9 @@ module _ {K V : Type 0} {F : Field K} {R : Rows K V} (laws : RowLaws F R) where
   -- a row in the span of others adds nothing to them
   pub within-known : {v : V} {L : List V} → InSpan R L v → Within R (v ∷ L) L
   within-known {L = L} s = within-cons s (within-refl L)
+
+  pub within-same : {L M : List V} → Within R L M → Within R M L → SameSpan R L M
+  within-same {L} {M} t u v = (λ s. to-span (span-trans t (from-span L s)), λ s. to-span (span-trans u (from-span M s)))
 
   pub within-head : (b : V) {L M : List V} → Within R L M → Within R (b ∷ L) (b ∷ M)
   within-head b {M = M} t = within-cons (span-head b M) (within-skip b t)

@@ -2,7 +2,7 @@
 --   ZeroAt v ps       v is zero at each of the places ps
 --   Stairs m ps L     the rows of L lead at the places ps, which rise from m on, and each is zero at the places of the others
 use mathlib.Core.Path.{_≡_, refl, sym, ap, ap₂, subst, _∙_}
-use mathlib.Core.List.{List, [], _∷_}
+use mathlib.Core.List.{List, [], _∷_, _++_}
 use Prim.Native.Nat.{ℕ, suc, _≤_, _<_}
 use native.Mathlib.Omega.{arith}
 use native.Mathlib.Decide.{decLe}
@@ -10,6 +10,7 @@ use Rattle.linear.specs.Field.{Field}
 use Rattle.linear.specs.Rows.{Rows, RowLaws}
 use Rattle.linear.specs.Span.{Each}
 use Rattle.linear.specs.Reduced.{Leads}
+use Rattle.linear.proofs.Each.{each-push}
 use Rattle.linear.proofs.Fields.{zero-add, mul-zero}
 use Rattle.linear.proofs.Rows.{term-one, term-skip}
 use Rattle.linear.proofs.Spans.{InSpan, span-nil, span-cons, Within, within-cons, Indep, indep-nil, indep-cons, span-drop, span-trans, span-skip, span-head, within-all}
@@ -22,6 +23,13 @@ module _ {K V : Type 0} (F : Field K) (R : Rows K V) where
   pub data Stairs : ℕ → List ℕ → List V → Type 0 where
     stairs-nil : {m : ℕ} → Stairs m [] []
     stairs-cons : {m p : ℕ} {ps : List ℕ} {v : V} {L : List V} → m ≤ p → Leads F R v p → ZeroAt v ps → Stairs (suc p) ps L → Stairs m (p ∷ ps) (v ∷ L)
+
+module _ {K V : Type 0} {F : Field K} {R : Rows K V} where
+  -- one row more, which leads after the others at a place where they are zero
+  pub stairs-push : {v : V} {p m : ℕ} {ps : List ℕ} {L : List V} → Stairs F R m ps L → m ≤ p → Each (λ q. q < p) ps → Leads F R v p
+      → Each (λ w. R .coord w p ≡ F .zero) L → Stairs F R m (ps ++ (p ∷ [])) (L ++ (v ∷ []))
+  stairs-push stairs-nil mp b lv z = stairs-cons mp lv tt stairs-nil
+  stairs-push {p = p} (stairs-cons {ps = ps} {v = w} mq lw zw st) mp (b, bs) lv (z, zs) = stairs-cons mq lw (each-push (λ q. R .coord w q ≡ F .zero) ps p zw z) (stairs-push st b bs lv zs)
 
 module _ {K V : Type 0} {F : Field K} {R : Rows K V} (laws : RowLaws F R) where
   open Field F using (zero, one, add, mul)

@@ -1,6 +1,7 @@
 -- Row kinds: rows of a fixed width over a field.
 --   Rows K V      what a kind of row offers: its width, zero, sum, scalar multiple, numbered coordinates
---   minus F R     v less c times w
+--   minus         v less c times w
+--   cleared       v less what makes it other than zero at a place where u is one
 --   RowLaws F R   sum and multiple go coordinate by coordinate, every coordinate of zero is zero,
 --                 and two rows are equal when all coordinates below the width are
 -- Assumes nothing.
@@ -17,6 +18,9 @@ pub record Rows (K V : Type 0) : Type 0 where
 
 abbrev pub minus : {K V : Type 0} → Field K → Rows K V → V → K → V → V
 minus F R v c w = R .plus v (R .times (F .neg c) w)
+
+abbrev pub cleared : {K V : Type 0} → Field K → Rows K V → V → ℕ → V → V
+cleared F R u i v = minus F R v (R .coord v i) u
 
 pub record RowLaws {K V : Type 0} (F : Field K) (R : Rows K V) : Type 0 where
   pub coord-none : (i : ℕ) → R .coord (R .none) i ≡ F .zero

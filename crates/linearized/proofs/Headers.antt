@@ -12,7 +12,7 @@ use Rattle.std.specs.Iters.{counting}
 use Rattle.std.proofs.shelf.Counted.{length-map-counting, getD-map-counting}
 use Rattle.linear.specs.Span.{combination, Spans, Independent}
 use Rattle.linear.proofs.Fields.{mul-zero, zero-add as zero-plus}
-use Rattle.linear.proofs.Numbered.{each-from}
+use Rattle.linear.proofs.Each.{each-from}
 use Rattle.field.specs.Alphabet.{Alphabet, Lawful, symbol-rows}
 use Rattle.field.proofs.Alphabets.{basis-in}
 use Rattle.field.proofs.Digits.{power-positive, digit-none}

@@ -17,7 +17,7 @@ use packet::Packet;
 impl Session {
     // A fresh session: every number shut, and the rows of all eight numbers zero.
     // Whatever calls are made on it, its answers are those of the plain machine.
-    pub fn start<F: SymbolField>(
+    pub(crate) fn start<F: SymbolField>(
         k: usize,
         l: usize,
         rows: &mut [Packet<F>],
@@ -43,7 +43,11 @@ impl Session {
     }
 
     // An open number has taken nothing yet.
-    pub fn open<F: SymbolField>(&mut self, rows: &[Packet<F>], number: u8) -> Result<(), Refusal>
+    pub(crate) fn open<F: SymbolField>(
+        &mut self,
+        rows: &[Packet<F>],
+        number: u8,
+    ) -> Result<(), Refusal>
         ensures { λ r. ⌜ Opened (alphabet Scalar·FiniteField F·FiniteField F·SymbolField) (now (self .entry)) (now (rows .entry)) number r (now (self .exit)) ⌝ }
     {
         match self.look(rows, number)? {
@@ -59,7 +63,11 @@ impl Session {
     }
 
     // How many packets were taken, and the dimension of what they span.
-    pub fn tally<F: SymbolField>(&self, rows: &[Packet<F>], number: u8) -> Result<Tally, Refusal>
+    pub(crate) fn tally<F: SymbolField>(
+        &self,
+        rows: &[Packet<F>],
+        number: u8,
+    ) -> Result<Tally, Refusal>
         ensures { λ r. ⌜ Tallied (alphabet Scalar·FiniteField F·FiniteField F·SymbolField) (now (self .entry)) (now (rows .entry)) number r ⌝ }
     {
         let (taken, dimension) = self.reach(rows, number)?;
@@ -67,7 +75,7 @@ impl Session {
     }
 
     // Shuts a number, and zeroes its rows.
-    pub fn close<F: SymbolField>(
+    pub(crate) fn close<F: SymbolField>(
         &mut self,
         rows: &mut [Packet<F>],
         number: u8,

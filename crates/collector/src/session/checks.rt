@@ -4,11 +4,12 @@ ghost use mathlib.Core.Bool.{true};
 ghost use mathlib.Core.Logic.{_↔_};
 ghost use lib.ListN.{length};
 ghost use Rattle.field.specs.Alphabet.{alphabet};
-ghost use Rattle.collector.specs.Regions.{Sound, zero-rows};
+ghost use Rattle.collector.specs.Regions.{zero-rows};
 ghost use Rattle.collector.specs.Session.{Allowed, held, Looked, Reached};
 use super::Number;
 use super::Session;
 use crate::refusal::Refusal;
+use crate::window::is_window;
 use field::SymbolField;
 use packet::Packet;
 
@@ -17,13 +18,6 @@ pub(crate) fn allowed(k: usize, l: usize, m: usize) -> bool
     ensures { λ r. ⌜ (r ≡ true) ↔ Allowed k l m ⌝ }
 {
     1 <= k && k <= l && l <= m
-}
-
-// Whether a window is a reduced form of dimension d with headers below q^ℓ, then zeros.
-pub(crate) fn sound<F: SymbolField>(rows: &[Packet<F>], l: usize, d: usize) -> bool
-    ensures { λ r. ⌜ (r ≡ true) ↔ Sound (alphabet Scalar·FiniteField F·FiniteField F·SymbolField) l d (now (rows .entry)) ⌝ }
-{
-    false
 }
 
 // Zeroes the rows.
@@ -73,7 +67,7 @@ impl Session {
         }
         let record = self.numbers[number as usize];
         let from = number as usize * width;
-        if !sound(&rows[from..from + width], self.l, record.held()) {
+        if !is_window(&rows[from..from + width], record.held(), self.l) {
             return Err(Refusal::Rows);
         }
         Ok(record)

@@ -7,10 +7,12 @@ use crate::FiniteField;
 
 impl Bit {
     // The bit whose code is n modulo 2.
-    pub(crate) fn of(n: u8) -> Bit
+    pub(crate) fn of(n: u32) -> Bit
         ensures { λ r. ⌜ r ≡ bits .make n ⌝ }
     {
-        Bit { code: n & 1 }
+        Bit {
+            code: (n & 1) as u8,
+        }
     }
 }
 
@@ -32,7 +34,7 @@ pub impl FiniteField for Bit as BitField {
     }
 
     fn plus(self, other: Bit) -> Bit {
-        Bit::of(self.code ^ other.code)
+        Bit::of((self.code ^ other.code) as u32)
     }
 
     fn negative(self) -> Bit {
@@ -40,7 +42,7 @@ pub impl FiniteField for Bit as BitField {
     }
 
     fn times(self, other: Bit) -> Bit {
-        Bit::of(self.code & other.code)
+        Bit::of((self.code & other.code) as u32)
     }
 
     fn inverse(self) -> Option<Bit> {
@@ -52,6 +54,6 @@ pub impl FiniteField for Bit as BitField {
     }
 
     fn from_code(n: u32) -> Option<Bit> {
-        if n < 2 { Some(Bit::of(n as u8)) } else { None }
+        if n < 2 { Some(Bit::of(n)) } else { None }
     }
 }

@@ -124,7 +124,7 @@ pub impl SymbolField for Octet as OctetSymbols {
 
     fn coordinate(self, i: usize) -> Bit {
         if i < Self::DEGREE {
-            Bit::of(self.code >> i)
+            Bit::of((self.code >> i) as u32)
         } else {
             Bit::zero()
         }
