@@ -5,7 +5,7 @@ use mathlib.Core.Path.{_≡_}
 use mathlib.Core.List.{List, [], _∷_, map}
 use Prim.Native.Nat.{ℕ}
 use Rattle.field.specs.Alphabet.{Alphabet}
-use Rattle.field.specs.Alphabets.{octet-alphabet}
+use Rattle.field.specs.Alphabets.{octet-alphabet, word-alphabet, nibble-alphabet}
 use Rattle.packet.specs.declared.Packet.{Packet}
 use Rattle.linearized.specs.Code.{packets}
 
@@ -25,4 +25,7 @@ module _ {K S : Type 0} (A : Alphabet K S) where
 pub record Worked : Type 0 where
   pub octet-product : Product octet-alphabet 0x57 0x83 0xc1
   pub octet-raise : Raise octet-alphabet 0x80 0x9a
+  pub word-product : Product word-alphabet 0x8000 0x0002 0x100b
+  pub nibble-product : Product nibble-alphabet 0x1000000 0x0000010 0x0000011
+  pub nibble-raise : Raise nibble-alphabet 0x0000010 0x0010100
   pub octet-packets : Sent octet-alphabet 3 (1 ∷ 1 ∷ []) ((1, 0) ∷ (2, 6) ∷ (4, 0x14) ∷ [])

@@ -1,0 +1,3 @@
+pub mod Nexts
+pub mod Steps
+pub mod Stirring

@@ -1,0 +1,4 @@
+pub mod Feeds
+pub mod Layers
+pub mod Lists
+pub mod Lengths
