@@ -1,6 +1,6 @@
 // A session: k, ℓ and the records of eight block numbers. The rows it works on are lent to each call.
 mod calls;
-mod checks;
+pub(crate) mod checks;
 
 // What the session keeps of a number. Its rows hold the reduced form of what was taken.
 #[derive(Clone, Copy)]
