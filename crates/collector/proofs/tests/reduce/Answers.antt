@@ -28,9 +28,10 @@ add-row-now-requires g c κs = record {
 
 pub loop-packet-holds : need.loop-packet-holds
 unfolding A
-loop-packet-holds g c =
-    (subst (Window (A g .scalars) (packet-rows (A g)) 0) (sym (c .clear .ensures)) (window-zero (packet-laws (laws g)) (length (c .args .rows .now))),
-     subst (λ m. m + m ≤ length (c .clear .last .rows)) (c .m-m .ensures) (c .if-rows-m .left))
+loop-packet-holds g c = (
+  subst (Window (A g .scalars) (packet-rows (A g)) 0) (sym (c .clear .ensures)) (window-zero (packet-laws (laws g)) (length (c .args .rows .now))),
+  subst (λ m. m + m ≤ length (c .clear .last .rows)) (c .m-m .ensures) (c .if-rows-m .left),
+)
 
 pub loop-packet-again : need.loop-packet-again
 loop-packet-again g c = (c .add-row-now .ensures .added .window, omega (arith, c .loop-packet .inv .1, c .add-row-now .kept .rows))
