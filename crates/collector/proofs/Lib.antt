@@ -1,5 +1,11 @@
 pub mod Sums
 pub mod Codewords
+pub mod Slots
+pub mod Tested
+pub mod Quotients
+pub mod Checked
+pub mod HeldPolynomials
+pub mod Moves
 pub mod Vectors
 pub mod LeadingPlaces
 pub mod Remainders
@@ -8,6 +14,8 @@ pub mod Windows
 pub mod Outcomes
 pub mod Checks
 pub mod Room
+pub mod Measures
+pub mod Candidates
 pub mod Regions
 pub mod Causes
 pub mod Spaces

@@ -1,9 +1,13 @@
 pub mod Refusals
+pub mod Holding
 pub mod Encoding
+pub mod Dividing
+pub mod Interpolation
 pub mod Places
 pub mod Windows
 pub mod Regions
 pub mod Answers
+pub mod Decoding
 pub mod Machine
 pub mod Session
 pub mod Runs

@@ -7,26 +7,15 @@ ghost use Rattle.std.specs.declared.result.Result.the-variants.{Ok};
 ghost use Rattle.linear.specs.Span.{Each};
 ghost use Rattle.field.specs.Alphabet.{alphabet};
 ghost use Rattle.linearized.specs.Code.{packets, Codeword};
-ghost use Rattle.linearized.specs.Polynomials.{value};
 ghost use Rattle.collector.specs.Refusals.{answered};
 ghost use Rattle.collector.specs.Encoding.{encode-refusal, encoded};
+use crate::evaluation::evaluate;
+use crate::holding::AsSymbols;
+use crate::holding::HoldsSymbols;
 use crate::refusal::Refusal;
 use field::FiniteField;
 use field::SymbolField;
 use packet::Packet;
-
-// f(x) for the message.
-fn evaluate<F: SymbolField>(message: &[F], x: F) -> F
-    ensures { λ r. ⌜ r ≡ value (alphabet Scalar·FiniteField F·FiniteField F·SymbolField) (now (message .entry)) x ⌝ }
-{
-    let mut sum = F::zero();
-    let mut power = x;
-    for u in message {
-        sum = sum.plus(u.times(power));
-        power = power.raise();
-    }
-    sum
-}
 
 // The encoder's refusals, in the order of their numbers.
 fn check(m: usize, k: usize, l: usize, symbols: usize, places: usize) -> Result<(), Refusal>
@@ -55,7 +44,7 @@ fn write_packets<F: SymbolField>(l: usize, message: &[F], output: &mut [Packet<F
         let Some(x) = F::from_code(code) else {
             unreachable()
         };
-        let y = evaluate(message, x);
+        let y = evaluate::<F, AsSymbols>(message, x);
         output[i] = Packet { x, y };
         code *= q;
     }

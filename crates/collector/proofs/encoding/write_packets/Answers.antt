@@ -5,11 +5,13 @@ use native.Mathlib.Nat.{pow-zero}
 use native.Mathlib.Omega.{arith}
 use lib.ListN.{length, set, drop}
 use mir.Facts.{fits-lt, fits-lit}
+use Rattle.std.proofs.shelf.Lists.{map-id}
 use Rattle.std.specs.declared.option.Option.the-variants.{Some}
 use Rattle.field.specs.Alphabet.{Alphabet, alphabet, Lawful}
 use Rattle.field.proofs.Alphabets.{of-code-some, of-code-is, basis-in, power-limit, power-step}
 use Rattle.packet.specs.declared.Packet.{Packet}
 use Rattle.linearized.specs.Code.{packet-at, basis}
+use Rattle.linearized.specs.Polynomials.{value}
 use Rattle.collector.proofs.Sums.{front-more}
 use Rattle.collector.proofs.encoding.write_packets.Given as given
 use Rattle.collector.proofs.encoding.write_packets.Needs as need
@@ -50,7 +52,7 @@ loop-i-again g c =
     let at : c .in-Some .x ≡ basis (A g) i = known .1 ∙ ap (g .F·FiniteField .element) (c .loop-i .inv .0) in
     let packet : Packet (g .F .Denot) = record { x = c .in-Some .x; y = c .evaluate-y .result } in
     let sent : packet ≡ packet-at (A g) u (basis (A g) i) =
-    (λ t. record { x = c .in-Some .x; y = c .evaluate-y .ensures t }) ∙ ap (packet-at (A g) u) at in (
+    (λ t. record { x = c .in-Some .x; y = (c .evaluate-y .ensures ∙ ap (λ v. value (A g) v (c .in-Some .x)) (map-id u)) t }) ∙ ap (packet-at (A g) u) at in (
       next-code g i (c .loop-i .code) (c .q-q .result) (c .loop-i .inv .0) (c .q-q .ensures),
       ap (λ ps. set ps i packet) (c .loop-i .inv .1) ∙ ap (set _ i) sent
           ∙ front-more (λ j. packet-at (A g) u (basis (A g) j)) (c .args .output .now) i packet (omega arith),
