@@ -20,4 +20,5 @@ pub mod Regions
 pub mod Causes
 pub mod Spaces
 pub mod Sessions
+pub mod Taking
 pub mod Runs

@@ -14,8 +14,9 @@ use Rattle.collector.specs.declared.session.Session.{Session}
 use Rattle.collector.specs.declared.session.Number.the-variants.{Shut, Open}
 use Rattle.collector.specs.Refusals.{Causes, First, NoCause}
 use Rattle.collector.specs.Windows.{PacketWindow}
+use Rattle.collector.specs.Answers.{list-limit}
 use Rattle.collector.specs.Regions.{width, window, put-window, zero-rows}
-use Rattle.collector.specs.Session.{record-of, Unsound, base-refusals, Ready}
+use Rattle.collector.specs.Session.{record-of, Overfull, Unsound, base-refusals, Ready}
 use Rattle.collector.proofs.Causes.{first-right, none-join}
 use Rattle.collector.proofs.Regions.{window-within, window-length}
 
@@ -74,3 +75,7 @@ seen-sound A ℓ m b d held rows e f h =
     let long : b * (ℓ + m) + (ℓ + m) - b * (ℓ + m) ≡ ℓ + m = omega arith in
     subst (λ x. PacketWindow A ℓ held (window (ℓ + x) b rows)) e
     (subst (λ n. PacketWindow A ℓ held (take n (drop (b * (ℓ + m)) rows))) long (subst (λ n. PacketWindow A ℓ n (take (b * (ℓ + m) + (ℓ + m) - b * (ℓ + m)) (drop (b * (ℓ + m)) rows))) f h))
+
+-- a list with room for k packets more
+pub not-overfull : (s : Session) (b n d k : ℕ) → record-of s b ≡ Open n d → n + k ≤ list-limit → ¬ Overfull s b k
+not-overfull s b n d k was h (n′, d′, e, l) = let same : n′ ≡ n = cc in omega arith

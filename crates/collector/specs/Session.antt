@@ -104,6 +104,12 @@ module _ {K S : Type 0} (A : Alphabet K S) where
   Reached s rows b (Ok (taken, dimension)) = Ready s rows b × (record-of s b ≡ Open taken dimension)
   Reached s rows b (Err e) = First (shut-refusals s rows b) e
 
+  -- the packet to take, with the record of its number
+  abbrev pub Judged : Session → List (Packet S) → (b x y : ℕ) → Result (ℕ × ℕ × Packet S) Refusal → Type 0
+  Judged s rows b x y (Ok (taken, dimension, packet)) =
+      Ready s rows b × (record-of s b ≡ Open taken dimension) × (x < A .q ^ s .l) × (y < A .q ^ A .m) × (taken < list-limit) × (packet ≡ packet-of A x y)
+  Judged s rows b x y (Err e) = First (take-refusals s rows b x y) e
+
   pub record Filled (s : Session) (rows : List (Packet S)) (b : ℕ) (U : Packet S → Type 0) (d : ℕ) (after : List (Packet S)) : Type 0 where
     pub new : List (Packet S)
     pub long : length new ≡ width A (s .l)

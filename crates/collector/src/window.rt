@@ -60,7 +60,7 @@ fn all_zero<R: Row + Copy>(rows: &[R]) -> bool
 }
 
 // q^ℓ.
-fn header_limit<F: SymbolField>(l: usize) -> u32
+pub(crate) fn header_limit<F: SymbolField>(l: usize) -> u32
     requires { ⌜ l ≤ F·SymbolField .m ⌝ }
     ensures { λ r. ⌜ r ≡ F·SymbolField .q ^ l ⌝ }
 {
