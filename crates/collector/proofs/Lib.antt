@@ -21,4 +21,5 @@ pub mod Causes
 pub mod Spaces
 pub mod Sessions
 pub mod Taking
+pub mod Solving
 pub mod Runs

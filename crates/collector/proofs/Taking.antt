@@ -85,7 +85,7 @@ module _ {K S : Type 0} {A : Alphabet K S} (laws : Lawful A) (s : Session) (rows
   ready-space : (p : Packet S) → Span (packet-rows A) (take d (rows-of A s rows b)) p ↔ taken-space A s rows b p
   ready-space = subst (λ number. (p : Packet S) → Span (packet-rows A) (take d (rows-of A s rows b)) p ↔ Span (packet-rows A) (take (held number) (rows-of A s rows b)) p) (sym was) (λ p. (λ x. x, λ x. x))
 
-  ready-long : length (rows-of A s rows b) ≡ width A (s .l)
+  pub ready-long : length (rows-of A s rows b) ≡ width A (s .l)
   ready-long = window-length (width A (s .l)) b rows (omega (arith, window-within (width A (s .l)) b (ready .below), ready .room))
 
   pub ready-room : (p : Packet S) → Header-below A (s .l) p → ¬ Span (packet-rows A) (rows-of A s rows b) p → d < length (rows-of A s rows b)

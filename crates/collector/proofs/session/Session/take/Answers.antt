@@ -73,9 +73,10 @@ returns g c =
     let rose = c .add-row-dimension .result .1 in
     let part = part-is (A g) (s .l) (c .m .result) b rows (c .m .ensures) in
     let grown = subst (λ L. Added (A g .scalars) (packet-rows (A g)) d (c .in-Continue-taken .packet) L M e rose) part (c .add-row-dimension .ensures .added) in
-    let added = subst (λ p. Added (A g .scalars) (packet-rows (A g)) d p (rows-of (A g) s rows b) M e rose) is grown in
-    (ready-none (A g) s rows b ready
-     ((record-of s b ≡ Shut, NotOpen) ∷ (A g .q ^ s .l ≤ c .args .x, Header) ∷ (A g .q ^ A g .m ≤ c .args .y, Payload) ∷ (Overfull s b 1, ListFull) ∷ [])
-     (not-shut (A g) s rows b ready n d was, (λ h. omega (arith, h, low), (λ h. omega (arith, h, high), (not-overfull s b n d 1 was (omega arith), tt)))),
-     taken-one (laws g) s rows b ready n d was (c .args .x) (c .args .y) e rose M _ (packet-header (laws g) (s .l) (c .args .x) (c .args .y) (ready .allowed .2) low)
-     added (c .add-row-dimension .kept .rows ∙ ap length part) (put-is (A g) (s .l) (c .m .result) b rows M (c .m .ensures)))
+    let added = subst (λ p. Added (A g .scalars) (packet-rows (A g)) d p (rows-of (A g) s rows b) M e rose) is grown in (
+      ready-none (A g) s rows b ready
+          ((record-of s b ≡ Shut, NotOpen) ∷ (A g .q ^ s .l ≤ c .args .x, Header) ∷ (A g .q ^ A g .m ≤ c .args .y, Payload) ∷ (Overfull s b 1, ListFull) ∷ [])
+          (not-shut (A g) s rows b ready n d was, (λ h. omega (arith, h, low), (λ h. omega (arith, h, high), (not-overfull s b n d 1 was (omega arith), tt)))),
+      taken-one (laws g) s rows b ready n d was (c .args .x) (c .args .y) e rose M _ (packet-header (laws g) (s .l) (c .args .x) (c .args .y) (ready .allowed .2) low)
+          added (c .add-row-dimension .kept .rows ∙ ap length part) (put-is (A g) (s .l) (c .m .result) b rows M (c .m .ensures)),
+    )
