@@ -35,8 +35,11 @@ returns-in-Break-dimension g c =
     let p = err-from-errBy (c .from-residual .result) (c .from-residual .ensures .1) in
     let s = c .args .self .now in
     let b = c .args .number in
-    rw (p .1, p .2) (first-left (shut-refusals (A g) s (c .args .rows .now) b)
-    (solve-causes (A g) (s .k) (s .l) (taken-space (A g) s (c .args .rows .now) b) (held (record-of s b)) (length (c .args .output .now))) (c .in-Break-dimension .field-0 .0) (c .in-Break-dimension .ensures tt), refl)
+    rw (p .1, p .2) (
+      first-left (shut-refusals (A g) s (c .args .rows .now) b)
+          (solve-causes (A g) (s .k) (s .l) (taken-space (A g) s (c .args .rows .now) b) (held (record-of s b)) (length (c .args .output .now))) (c .in-Break-dimension .field-0 .0) (c .in-Break-dimension .ensures tt),
+      refl,
+    )
 
 -- the number's window and its reduced rows lie among the rows
 inside : (g : given.Over) (c : need.After-m g) → c .args .number * (c .args .self .now .l + c .m .result) + c .in-Continue-dimension .dimension ≤ length (c .args .rows .now)
@@ -44,8 +47,12 @@ unfolding A
 inside g c =
     let s = c .args .self .now in
     let (ready, was) = c .in-Continue-dimension .ensures tt in
-    omega (arith, ready-window (A g) s (c .args .rows .now) (c .args .number) ready (c .m .result) (c .m .ensures), c .m .ensures,
-    held-width (laws g) s (c .args .rows .now) (c .args .number) ready (c .in-Continue-dimension .field-0-0) (c .in-Continue-dimension .dimension) was)
+    omega (
+      arith,
+      ready-window (A g) s (c .args .rows .now) (c .args .number) ready (c .m .result) (c .m .ensures),
+      c .m .ensures,
+      held-width (laws g) s (c .args .rows .now) (c .args .number) ready (c .in-Continue-dimension .field-0-0) (c .in-Continue-dimension .dimension) was,
+    )
 
 pub add-dimension : need.add-dimension
 unfolding A
@@ -98,12 +105,20 @@ returns-in-Some g c =
     let part = reduced-part (laws g) s rows b ready n d was (c .m .result) (c .m .ensures) in
     let here = subst (λ L. SolveAnswer (A g) (s .k) (s .l) (Span (packet-rows (A g)) L) (length L) output written (c .in-Some .solved)) part (c .in-Some .ensures tt) in
     let answer = subst (λ r. SolveAnswer (A g) (s .k) (s .l) (taken-space (A g) s rows b) r output written (c .in-Some .solved)) (held-long (laws g) s rows b ready n d was) here in
-    let is = ap held was in
-    (ready-none (A g) s rows b ready
-     ((record-of s b ≡ Shut, NotOpen) ∷ solve-causes (A g) (s .k) (s .l) (taken-space (A g) s rows b) (held (record-of s b)) (length output))
-     (not-shut (A g) s rows b ready n d was, (λ h. omega (arith, h, c .if-output-self .left), (λ h. omega (arith, h, is, c .if-dimension-self .left),
-     (λ h. omega (arith, h, is, c .if-self-dimension .left), (λ f. f (answer .message) (answer .within), tt))))),
-     answer)
+    let is = ap held was in (
+      ready-none (A g) s rows b ready
+          ((record-of s b ≡ Shut, NotOpen) ∷ solve-causes (A g) (s .k) (s .l) (taken-space (A g) s rows b) (held (record-of s b)) (length output)) (
+            not-shut (A g) s rows b ready n d was,
+            (
+              λ h. omega (arith, h, c .if-output-self .left),
+              (
+                λ h. omega (arith, h, is, c .if-dimension-self .left),
+                (λ h. omega (arith, h, is, c .if-self-dimension .left), (λ f. f (answer .message) (answer .within), tt)),
+              ),
+            ),
+          ),
+      answer,
+    )
 
 pub returns-in-None : need.returns-in-None
 unfolding A
@@ -117,9 +132,18 @@ returns-in-None g c =
     let (ready, was) = c .in-Continue-dimension .ensures tt in
     let part = reduced-part (laws g) s rows b ready n d was (c .m .result) (c .m .ensures) in
     let nowhere = subst (λ L. (u : List _) → ¬ Within (A g) (s .k) (s .l) (Span (packet-rows (A g)) L) u) part (c .in-None .ensures tt .0) in
-    let is = ap held was in
-    (ready-first (A g) s rows b ready
-     ((record-of s b ≡ Shut, NotOpen) ∷ solve-causes (A g) (s .k) (s .l) (taken-space (A g) s rows b) (held (record-of s b)) (length output)) (NoneNear d)
-     (inr (not-shut (A g) s rows b ready n d was, inr (λ h. omega (arith, h, c .if-output-self .left), inr (λ h. omega (arith, h, is, c .if-dimension-self .left),
-     inr (λ h. omega (arith, h, is, c .if-self-dimension .left), inl (nowhere, ap NoneNear (sym is))))))),
-     c .in-None .ensures tt .1)
+    let is = ap held was in (
+      ready-first (A g) s rows b ready
+          ((record-of s b ≡ Shut, NotOpen) ∷ solve-causes (A g) (s .k) (s .l) (taken-space (A g) s rows b) (held (record-of s b)) (length output)) (NoneNear d)
+          (inr (
+            not-shut (A g) s rows b ready n d was,
+            inr (
+              λ h. omega (arith, h, c .if-output-self .left),
+              inr (
+                λ h. omega (arith, h, is, c .if-dimension-self .left),
+                inr (λ h. omega (arith, h, is, c .if-self-dimension .left), inl (nowhere, ap NoneNear (sym is))),
+              ),
+            ),
+          )),
+      c .in-None .ensures tt .1,
+    )
