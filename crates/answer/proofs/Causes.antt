@@ -1,5 +1,5 @@
 -- Lists of causes: equivalent causes refuse alike; causes one after the other.
-use Rattle.std.proofs.Common.{◌≡◌, ◌⊎◌, ◌↔◌, List, [], ◌∷◌, ◌++◌, ◌∙◌, inl, inr, ⊎_elim}
+use Rattle.std.proofs.Common.{◌⊎◌, ◌↔◌, [], ◌∷◌, ◌++◌, inl, inr, ⊎_elim}
 use Rattle.answer.specs.declared.refusal.Refusal.{Refusal}
 use Rattle.answer.specs.Refusals.{Causes, First, NoCause}
 

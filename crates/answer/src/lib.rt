@@ -1,4 +1,6 @@
 // What calls answer: refusals, and what the calls of a session give.
+#![tactic(auto)]
+
 pub mod refusal;
 
 // The dimension of what was taken, and whether the last packet raised it.

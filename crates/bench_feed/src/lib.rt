@@ -1,4 +1,6 @@
 // What another maker does with feeds: one of its own, and piles of layers that are taken to the end.
+#![tactic(auto)]
+
 ghost use Rattle.std.specs.Prelude.{◌≡◌, [], IfOk, OnOk};
 ghost use Rattle.field.specs.Alphabet.{alphabet};
 ghost use Rattle.feed.specs.Layers.{held, stirred, gapped, joined};
@@ -21,9 +23,9 @@ pub fn take_all<F: SymbolField, D: Feed<Item = Packet<F>>>(
     heap: Global,
     feed: &mut D,
 ) -> Result<Vec<Packet<F>>, AllocError>
-    ensures took { IfOk result (λ v. v.items ≡ list feed.old) }
-    ensures empty { OnOk result (list feed.new ≡ []) }
-    ensures same { lenders feed.new ≡ lenders feed.old }
+    ensures took { IfOk result (λ v. v.items ≡ D.list feed.old) }
+    ensures empty { OnOk result (D.list feed.new ≡ []) }
+    ensures same { D.lenders feed.new ≡ D.lenders feed.old }
 {
     let mut taken = Vec::new(heap);
     while let Some(packet) = feed.next() {
@@ -40,7 +42,7 @@ pub fn take_pile<F: SymbolField, D: Feed<Item = Packet<F>>>(
     place: usize,
     scalar: F::Scalar,
 ) -> Result<Vec<Packet<F>>, AllocError>
-    ensures { IfOk result (λ v. v.items ≡ stirred (alphabet F.Scalar.FiniteField F.FiniteField F.SymbolField) scalar (gapped place (joined (list feed.old) (held packets.now)))) }
+    ensures { IfOk result (λ v. v.items ≡ stirred (alphabet F.Scalar.FiniteField F.FiniteField F.SymbolField) scalar (gapped place (joined (D.list feed.old) (held packets.now)))) }
 {
     let joined = Join::new(feed, Held::new(packets));
     let mut pile = Stir::new(Gap::new(joined, place), scalar);

@@ -23,7 +23,7 @@ fn stir_out<D: Feed<Item = Packet<Octet>>>(
     heap: Global,
     feed: &mut D,
 ) -> Result<Vec<Packet<Octet>>, AllocError>
-    ensures { OnOk result (list feed.new ≡ []) }
+    ensures { OnOk result (D.list feed.new ≡ []) }
 {
     let mut stir = Stir::new(feed, Bit::one());
     take_all(heap, &mut stir)

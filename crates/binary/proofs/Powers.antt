@@ -77,7 +77,7 @@ module _ {n : ℕ} {mul : ℕ → ℕ → ℕ} (R : Ring n mul) where
         sum_mul a b (bit_xor a b) ha hb (R.sum_in a b ha hb)
         ∙ ap₂ bit_xor (R.mul_sum a a b ha ha hb) (R.mul_sum b a b hb ha hb ∙ R.sum_comm (mul b a) (mul b b))
         ∙ xor_swap (mul a a) (mul a b) (mul b b) (mul b a)
-        ∙ ap (bit_xor (bit_xor (mul a a) (mul b b))) (ap (bit_xor (mul a b)) (R.mul_comm b a hb ha) ∙ R.Sum-self (mul a b))
+        ∙ ap (bit_xor (bit_xor (mul a a) (mul b b))) (ap (bit_xor (mul a b)) (R.mul_comm b a hb ha) ∙ R.sum_self (mul a b))
         ∙ R.sum_zero (bit_xor (mul a a) (mul b b));
   }
 

@@ -1,4 +1,6 @@
 // Fields of characteristic 2 whose elements are codes, as theorems: the definitions stand in specs/.
+#![tactic(auto)]
+
 ghost use Rattle.std.specs.Prelude.{◌≡◌, ℕ, ◌/◌, ◌%◌, ◌^◌, ◌<◌};
 ghost use Rattle.binary.specs.Binary.{Binary};
 ghost use Rattle.binary.specs.Products.{bit_product, hex_product, octet_product, word_product, nibble_product, Modulus};

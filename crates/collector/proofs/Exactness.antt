@@ -1,5 +1,5 @@
 -- What the plain machine's solve answers, exactly.
-use Rattle.std.proofs.Common.{◌≡◌, ℕ, ◌+◌, ◌-◌, ◌*◌, ◌<◌, ◌≤◌, ◌⊎◌, ◌↔◌, List, [], ◌∷◌, ◌++◌, length, drop, Ok, Err, Result, sym, refl, ap, ◌∙◌, subst, inl, inr, arith}
+use Rattle.std.proofs.Common.{◌≡◌, ℕ, ◌+◌, ◌-◌, ◌<◌, ◌≤◌, ◌↔◌, List, ◌++◌, length, drop, Ok, Err, Result, sym, refl, ap, ◌∙◌, subst, inl, inr, arith}
 use Rattle.linear.specs.Span.{Span, SameSpan, IsDim, Meet}
 use Rattle.linear.proofs.Dims.{dim_unique, dim_same}
 use Rattle.field.specs.Alphabet.{Alphabet, Lawful}

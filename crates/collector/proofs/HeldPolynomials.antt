@@ -1,5 +1,5 @@
 -- Polynomials held as codes: places that a loop has read and written, and the coefficients that stand there after.
-use Rattle.std.proofs.Common.{◌≡◌, ℕ, zero as 0ₙ, suc, ◌+◌, ◌-◌, ◌<◌, ◌≤◌, true, false, cond, ltb, ◌⊎◌, List, [], ◌∷◌, map, length, get_or, take, set, replicate, sym, refl, ap, ◌∙◌, subst, ap₂, inl, inr, zero-add, arith}
+use Rattle.std.proofs.Common.{◌≡◌, ℕ, zero as 0ₙ, suc, ◌+◌, ◌-◌, ◌<◌, ◌≤◌, true, false, cond, ltb, ◌⊎◌, List, [], ◌∷◌, map, length, get_or, take, set, replicate, sym, refl, ap, ◌∙◌, ap₂, inl, inr, zero-add, arith}
 use native.Mathlib.Decide.{dec_lt}
 use Rattle.std.specs.List.{range_with_len}
 use Rattle.std.proofs.lemmas.List.{map-set, get_or-map, take-map, get_or-take, length-take, get_or_append_left, get_or-append_right, get_or-drop}
@@ -10,10 +10,10 @@ use Rattle.linearized.specs.Polynomials.{at, value}
 use Rattle.linearized.specs.Coefficients.{Same, Null, before}
 use Rattle.linearized.proofs.Frobenius.{frobenius_zero}
 use Rattle.linearized.proofs.Values.{value_same}
-use Rattle.code.specs.Holding.{held_code}
+use Rattle.subspace_code.specs.Holding.{held_code}
 use Rattle.collector.specs.Interpolation.{members, polynomial, written, mixed, shifted}
-use Rattle.code.proofs.Sums.{front_more}
-use Rattle.code.proofs.Slots.{at_past_slots}
+use Rattle.subspace_code.proofs.Sums.{front_more}
+use Rattle.subspace_code.proofs.Slots.{at_past_slots}
 
 module _ {X : Type 0} (h : ℕ → X) (n : ℕ) (xs : List X) where
   pub written_front : (i : ℕ) (d : X) → i < n → get_or (written h n xs) i d ≡ h i

@@ -4,7 +4,7 @@ use Rattle.std.proofs.lemmas.List.{map_more, take_all}
 use Rattle.linear.specs.Rows.{Rows, RowLaws}
 use Rattle.linear.specs.Field.{Field}
 use Rattle.linear.specs.Span.{Each, Span, SameSpan, IsDim}
-use Rattle.linear.proofs.Spans.{Within, within_nil, within_cons, within_trans, within_skip, within_append, within_left, within_right, within_all, within_same, span_head, span_trans, from_span, to_span}
+use Rattle.linear.proofs.Spans.{within_nil, within_cons, within_trans, within_skip, within_append, within_left, within_right, within_all, within_same, span_head, span_trans, from_span, to_span}
 use Rattle.linear.proofs.Dims.{dim_same}
 use Rattle.field.specs.Alphabet.{Alphabet, Lawful, symbol_rows}
 use Rattle.field.proofs.Symbols.{symbol_laws}

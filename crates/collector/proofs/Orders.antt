@@ -1,5 +1,5 @@
 -- A number's rows depend only on the space of the packets that it holds: not on their order, nor on other numbers.
-use Rattle.std.proofs.Common.{◌≡◌, ℕ, ◌+◌, ◌*◌, ◌<◌, ◌≤◌, ◌⊎◌, List, [], ◌∷◌, ◌++◌, length, take, Ok, Err, sym, refl, ap, ◌∙◌, subst, inl, inr, ⊎_elim, arith}
+use Rattle.std.proofs.Common.{◌≡◌, ℕ, ◌+◌, ◌*◌, ◌<◌, ◌≤◌, List, [], ◌∷◌, ◌++◌, length, take, Ok, Err, sym, refl, ap, ◌∙◌, subst, ⊎_elim, arith}
 use native.Mathlib.Decide.{ℕ_discrete}
 use Rattle.std.specs.List.Sorted.{IsPermutation}
 use Rattle.std.specs.List.{AllByRecursion as All}
@@ -16,7 +16,7 @@ use Rattle.packet.proofs.Packets.{packet_laws}
 use Rattle.collector.specs.Windows.{PacketWindow}
 use Rattle.collector.specs.Regions.{width}
 use Rattle.collector.specs.Answers.{packet_of, kept}
-use Rattle.collector.specs.Session.{record_of, rows_of}
+use Rattle.collector.specs.Session.{record_of}
 use Rattle.collector.specs.Machine.{Cell, shut, holds, Call, opened, took, drained, solved, tallied, closed, Machine, Put, Still, Holds, Plain}
 use Rattle.collector.specs.Runs.{State, Run, Represents, Follows, Faithful}
 use Rattle.collector.specs.Laws.{PlainRun, left, number_rows, Orderless}

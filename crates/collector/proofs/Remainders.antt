@@ -1,6 +1,6 @@
 -- A row less what reduced rows lead, row by row.
 --   Remaining L v r k    the first k rows of L are taken from v, and r is left
-use Rattle.std.proofs.Common.{◌≡◌, ℕ, zero, ◌+◌, ◌<◌, ◌≤◌, List, length, get_or, sym, ap, ◌∙◌, subst, arith, below_more}
+use Rattle.std.proofs.Common.{◌≡◌, ℕ, ◌+◌, ◌<◌, ◌≤◌, List, length, get_or, sym, ap, ◌∙◌, subst, arith, below_more}
 use Rattle.linear.specs.Field.{Field}
 use Rattle.linear.specs.Rows.{Rows, RowLaws, minus, cleared}
 use Rattle.linear.specs.Reduced.{Leads, Reduced}

@@ -1,11 +1,11 @@
 -- Every run of a session follows the plain machine.
-use Rattle.std.proofs.Common.{◌≡◌, ℕ, zero as 0ₙ, suc, ◌+◌, ◌-◌, ◌*◌, ◌^◌, ◌<◌, ◌≤◌, Bool, true, false, cond, eqb, ◌≢◌, ◌⊎◌, ◌↔◌, List, [], ◌∷◌, ◌++◌, length, get_or, take, drop, set, replicate, Ok, Err, Result, sym, refl, ap, ◌∙◌, subst, inl, inr, ⊎_elim, arith, length-append, length-set, get_or-set_other, get_or-set_same, eq-eqb, ne_eqb}
+use Rattle.std.proofs.Common.{◌≡◌, ℕ, zero as 0ₙ, suc, ◌+◌, ◌*◌, ◌^◌, ◌<◌, ◌≤◌, cond, eqb, ◌⊎◌, ◌↔◌, List, [], ◌∷◌, ◌++◌, length, get_or, take, drop, set, replicate, Ok, Err, Result, sym, refl, ap, ◌∙◌, subst, inl, inr, arith, length-append, length-set, get_or-set_other, get_or-set_same, eq-eqb, ne_eqb}
 use native.Mathlib.Nat.{pow-zero}
 use native.Mathlib.Decide.{ℕ_discrete}
 use lib.ListN.{length-replicate}
 use Rattle.std.proofs.lemmas.List.{length-take-le, take_at, drop-take, take-take, take-replicate, drop-replicate}
 use Rattle.linear.specs.Span.{Each, Span, Spans, Sum, IsDim}
-use Rattle.linear.proofs.Dims.{dim_same, spans_self}
+use Rattle.linear.proofs.Dims.{spans_self}
 use Rattle.linear.proofs.Forms.{reduced_dim}
 use Rattle.linear.proofs.Sums.{sum_spans}
 use Rattle.field.specs.Alphabet.{Alphabet, Lawful}
@@ -26,7 +26,7 @@ use Rattle.answer.specs.Refusals.{Causes, First, NoCause}
 use Rattle.collector.specs.Windows.{PacketWindow}
 use Rattle.collector.specs.Regions.{window, put_window, width, zero_rows}
 use Rattle.collector.specs.Answers.{list_limit, packet_of, kept, SolveAnswer, solve_causes}
-use Rattle.collector.specs.Session.{record_of, held, Allowed, Only, Overfull, rows_of, taken_space, Unsound, base_refusals, shut_refusals, Filled}
+use Rattle.collector.specs.Session.{record_of, held, Allowed, Only, Overfull, rows_of, taken_space, Unsound, base_refusals, shut_refusals}
 use Rattle.collector.specs.Machine.{Cell, shut, holds, Call, opened, took, drained, solved, tallied, closed, Machine, Put, Still, Plain}
 use Rattle.collector.specs.Machine as machine
 use Rattle.collector.specs.Runs.{State, Step, Run, Stands, Represents, Follows, Faithful}

@@ -1,5 +1,5 @@
 -- What a call that is not refused by what all calls share may rely on.
-use Rattle.std.proofs.Common.{◌≡◌, ℕ, ◌+◌, ◌-◌, ◌*◌, ◌<◌, ◌≤◌, ◌⊎◌, List, [], ◌∷◌, ◌++◌, length, take, drop, sym, refl, ap, ◌∙◌, subst, inl, inr, arith}
+use Rattle.std.proofs.Common.{◌≡◌, ℕ, ◌+◌, ◌-◌, ◌*◌, ◌≤◌, List, [], ◌++◌, length, take, drop, sym, ap, ◌∙◌, subst, inl, inr, arith}
 use borrow.Rule.Slice.PartMut.{put_mid, post_of}
 use Rattle.std.proofs.lemmas.List.{length-take-le}
 use Rattle.field.specs.Alphabet.{Alphabet, Lawful}
@@ -12,7 +12,7 @@ use Rattle.collector.specs.Windows.{PacketWindow}
 use Rattle.collector.specs.Answers.{list_limit}
 use Rattle.collector.specs.Regions.{width, window, put_window, zero_rows}
 use Rattle.collector.specs.Session.{record_of, Overfull, Unsound, base_refusals, Ready}
-use Rattle.answer.proofs.Causes.{first_right, none_join}
+use Rattle.answer.proofs.Causes.{first_right}
 use Rattle.collector.proofs.Regions.{window_within, window_length}
 
 pub number_apart : {n d : ℕ} → Open n d ≡ Shut → ⊥

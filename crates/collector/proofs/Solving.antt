@@ -1,7 +1,7 @@
 -- The rows of a number as decoding gets them, and what its answer says of the number's space.
-use Rattle.std.proofs.Common.{◌≡◌, ℕ, ◌+◌, ◌-◌, ◌*◌, ◌<◌, ◌≤◌, ◌↔◌, List, length, take, drop, Some, None, Option, sym, refl, ap, ◌∙◌, subst, arith}
+use Rattle.std.proofs.Common.{◌≡◌, ℕ, ◌+◌, ◌-◌, ◌*◌, ◌≤◌, List, length, take, drop, sym, ap, ◌∙◌, arith}
 use Rattle.std.proofs.lemmas.List.{length-take-le, take-take}
-use Rattle.linear.specs.Span.{Each, Span, IsDim}
+use Rattle.linear.specs.Span.{Each, IsDim}
 use Rattle.linear.proofs.Each.{each_take}
 use Rattle.linear.proofs.Dims.{spans_self}
 use Rattle.linear.proofs.Forms.{reduced_dim}
@@ -12,8 +12,7 @@ use Rattle.packet.specs.Headers.{HeaderBelow}
 use Rattle.packet.proofs.Packets.{packet_laws}
 use Rattle.collector.specs.declared.session.Session.{Session}
 use Rattle.collector.specs.declared.session.Number.TheVariants.{Open}
-use Rattle.collector.specs.Regions.{width, window}
-use Rattle.collector.specs.Windows.{PacketWindow}
+use Rattle.collector.specs.Regions.{width}
 use Rattle.collector.specs.Session.{record_of, held, rows_of, taken_space, Ready}
 use Rattle.collector.proofs.Taking.{ready_packets, ready_long}
 

@@ -1,7 +1,7 @@
 -- Equal spaces have equal sums, intersections, distances, and give the same answers.
-use Rattle.std.proofs.Common.{◌≡◌, ℕ, ◌↔◌, List, [], ◌∷◌, refl}
+use Rattle.std.proofs.Common.{ℕ, ◌↔◌, List, [], ◌∷◌}
 use Rattle.linear.specs.Rows.{Rows}
-use Rattle.linear.specs.Span.{Span, IsDim, Sum, Meet}
+use Rattle.linear.specs.Span.{Span, Sum, Meet}
 use Rattle.linear.proofs.Dims.{dim_same}
 use Rattle.field.specs.Alphabet.{Alphabet}
 use Rattle.packet.specs.declared.Packet.{Packet}

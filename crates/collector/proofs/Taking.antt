@@ -1,7 +1,7 @@
 -- What a packet added to a number's window does, in the words of spaces.
 use Rattle.std.proofs.Common.{◌≡◌, ℕ, ◌+◌, ◌-◌, ◌*◌, ◌^◌, ◌<◌, ◌≤◌, Bool, true, false, cond, ltb, ◌↔◌, List, [], ◌∷◌, ◌++◌, length, take, drop, set, sym, refl, ap, ◌∙◌, subst, arith, le-ltb, lt-ltb}
 use borrow.Rule.Slice.PartMut.{put_mid}
-use Rattle.linear.specs.Span.{Span, Spans, SameSpan, IsDim, Sum}
+use Rattle.linear.specs.Span.{Span, Spans, Sum}
 use Rattle.linear.proofs.Rows.{plus_comm}
 use Rattle.linear.proofs.Dims.{dim_same}
 use Rattle.linear.proofs.Sums.{sum_spans}
@@ -11,7 +11,6 @@ use Rattle.packet.specs.declared.Packet.{Packet}
 use Rattle.packet.specs.Packets.{packet_rows}
 use Rattle.packet.specs.Headers.{HeaderBelow}
 use Rattle.packet.proofs.Packets.{packet_laws}
-use Rattle.answer.specs.declared.Taken.{Taken}
 use Rattle.answer.specs.declared.Drained.{Drained}
 use Rattle.collector.specs.Windows.{Window, Added, PacketWindow}
 use Rattle.collector.specs.declared.session.Session.{Session}

@@ -20,7 +20,7 @@ use Rattle.field.specs.declared.FiniteField.{Ghosts as FieldMembers}
 use Rattle.linearized.specs.Polynomials.{at}
 use Rattle.linearized.specs.Coefficients.{before}
 use Rattle.linearized.specs.Interpolation.{Pair, State}
-use Rattle.code.specs.Holding.{held_code}
+use Rattle.subspace_code.specs.Holding.{held_code}
 use Rattle.collector.specs.declared.interpolation.Pair.{Pair as CodePair}
 use Rattle.collector.specs.declared.interpolation.State.{State as CodeState}
 

@@ -11,14 +11,14 @@ ghost use Rattle.collector.specs.Decoding.{Quotient, Decodes, Counts};
 use crate::interpolation::{PLACES, interpolate};
 use crate::measuring::measure;
 use answer::Solved;
-use code::division::divide_held;
-use code::holding::{AsCodes, Holding};
 use field::{FiniteField, SymbolField};
 use packet::Packet;
+use subspace_code::division::divide_held;
+use subspace_code::holding::{AsCodes, Holding};
 
 // −f in place of f.
 fn negate<F: SymbolField>(f: &mut [u32])
-    ensures { IsNegative F.FiniteField.field (polynomial (alphabet Scalar-as-FiniteField F.FiniteField F.SymbolField) f.old) (polynomial (alphabet Scalar-as-FiniteField F.FiniteField F.SymbolField) f.new) }
+    ensures { IsNegative F.FiniteField.field (polynomial (alphabet F.Scalar.FiniteField F.FiniteField F.SymbolField) f.old) (polynomial (alphabet F.Scalar.FiniteField F.FiniteField F.SymbolField) f.new) }
 {
     for i in 0..f.len() {
         let here: F = AsCodes::load(f[i]);
@@ -29,7 +29,7 @@ fn negate<F: SymbolField>(f: &mut [u32])
 // The quotient of −Qx by Qy for a pair that vanishes on the packets; absent where Qy is zero.
 fn quotient<F: SymbolField>(k: usize, packets: &[Packet<F>]) -> Option<[u32; PLACES]>
     requires { (0 < k) × ((k ≤ 16) × (length packets.now ≤ 32)) }
-    ensures { Quotient (alphabet Scalar-as-FiniteField F.FiniteField F.SymbolField) k (length packets.now) (Span (packet_rows (alphabet Scalar-as-FiniteField F.FiniteField F.SymbolField)) packets.now) result }
+    ensures { Quotient (alphabet F.Scalar.FiniteField F.FiniteField F.SymbolField) k (length packets.now) (Span (packet_rows (alphabet F.Scalar.FiniteField F.FiniteField F.SymbolField)) packets.now) result }
 {
     let mut pair = interpolate(k, packets);
     negate::<F>(&mut pair.x);
@@ -44,7 +44,7 @@ fn quotient<F: SymbolField>(k: usize, packets: &[Packet<F>]) -> Option<[u32; PLA
 // Writes the symbols of the codes to the first places.
 fn write<F: SymbolField>(codes: &[u32], output: &mut [F])
     requires { length codes.now ≤ length output.old }
-    ensures { output.new ≡ polynomial (alphabet Scalar-as-FiniteField F.FiniteField F.SymbolField) codes.now ++ drop (length codes.now) output.old }
+    ensures { output.new ≡ polynomial (alphabet F.Scalar.FiniteField F.FiniteField F.SymbolField) codes.now ++ drop (length codes.now) output.old }
 {
     for i in 0..codes.len() {
         output[i] = AsCodes::load(codes[i]);
@@ -76,10 +76,10 @@ pub(crate) fn decode<F: SymbolField>(
 ) -> Option<Solved>
     requires allowed { (0 < k) × ((k ≤ l) × (l ≤ F.SymbolField.m)) }
     requires reach { length packets.now + k ≤ 2 * l }
-    requires headers { Each (HeaderBelow (alphabet Scalar-as-FiniteField F.FiniteField F.SymbolField) l) packets.now }
-    requires dimension { IsDim (packet_rows (alphabet Scalar-as-FiniteField F.FiniteField F.SymbolField)) (Span (packet_rows (alphabet Scalar-as-FiniteField F.FiniteField F.SymbolField)) packets.now) (length packets.now) }
+    requires headers { Each (HeaderBelow (alphabet F.Scalar.FiniteField F.FiniteField F.SymbolField) l) packets.now }
+    requires dimension { IsDim (packet_rows (alphabet F.Scalar.FiniteField F.FiniteField F.SymbolField)) (Span (packet_rows (alphabet F.Scalar.FiniteField F.FiniteField F.SymbolField)) packets.now) (length packets.now) }
     requires room { k ≤ length output.old }
-    ensures { Decodes (alphabet Scalar-as-FiniteField F.FiniteField F.SymbolField) k l (Span (packet_rows (alphabet Scalar-as-FiniteField F.FiniteField F.SymbolField)) packets.now) (length packets.now) output.old output.new result }
+    ensures { Decodes (alphabet F.Scalar.FiniteField F.FiniteField F.SymbolField) k l (Span (packet_rows (alphabet F.Scalar.FiniteField F.FiniteField F.SymbolField)) packets.now) (length packets.now) output.old output.new result }
 {
     let codes = quotient(k, packets)?;
     let message = &codes[0..k];

@@ -7,10 +7,10 @@ ghost use Rattle.linearized.specs.Interpolation.{τ, pair_value, Interpolates, R
 ghost use Rattle.collector.specs.Interpolation.{room, polynomial, written, mixed, shifted, pair_of, state_of, Reaches, Mixes, FirstMoves};
 
 use crate::scalar::is_zero;
-use code::evaluation::evaluate;
-use code::holding::{AsCodes, Holding};
 use field::{FiniteField, SymbolField};
 use packet::Packet;
+use subspace_code::evaluation::evaluate;
+use subspace_code::holding::{AsCodes, Holding};
 
 // Room for a pair's coefficients: 32 packets raise the degrees by 32, from 15 together at most.
 pub(crate) const PLACES: usize = 48;
@@ -34,7 +34,7 @@ pub(crate) struct State {
 // a f + b g in place of f, at the first places.
 fn mix<F: SymbolField>(f: &mut [u32], a: F, g: &[u32], b: F, places: usize)
     requires { (places ≤ length f.old) × (places ≤ length g.now) }
-    ensures { polynomial (alphabet Scalar-as-FiniteField F.FiniteField F.SymbolField) f.new ≡ written (mixed (alphabet Scalar-as-FiniteField F.FiniteField F.SymbolField) a (polynomial (alphabet Scalar-as-FiniteField F.FiniteField F.SymbolField) f.old) b (polynomial (alphabet Scalar-as-FiniteField F.FiniteField F.SymbolField) g.now)) places (polynomial (alphabet Scalar-as-FiniteField F.FiniteField F.SymbolField) f.old) }
+    ensures { polynomial (alphabet F.Scalar.FiniteField F.FiniteField F.SymbolField) f.new ≡ written (mixed (alphabet F.Scalar.FiniteField F.FiniteField F.SymbolField) a (polynomial (alphabet F.Scalar.FiniteField F.FiniteField F.SymbolField) f.old) b (polynomial (alphabet F.Scalar.FiniteField F.FiniteField F.SymbolField) g.now)) places (polynomial (alphabet F.Scalar.FiniteField F.FiniteField F.SymbolField) f.old) }
 {
     for i in 0..places {
         let left: F = AsCodes::load(f[i]);
@@ -46,7 +46,7 @@ fn mix<F: SymbolField>(f: &mut [u32], a: F, g: &[u32], b: F, places: usize)
 // raise(f) + c f in place of f, at the first places.
 fn shift<F: SymbolField>(f: &mut [u32], c: F, places: usize)
     requires { places ≤ length f.old }
-    ensures { polynomial (alphabet Scalar-as-FiniteField F.FiniteField F.SymbolField) f.new ≡ written (shifted (alphabet Scalar-as-FiniteField F.FiniteField F.SymbolField) c (polynomial (alphabet Scalar-as-FiniteField F.FiniteField F.SymbolField) f.old)) places (polynomial (alphabet Scalar-as-FiniteField F.FiniteField F.SymbolField) f.old) }
+    ensures { polynomial (alphabet F.Scalar.FiniteField F.FiniteField F.SymbolField) f.new ≡ written (shifted (alphabet F.Scalar.FiniteField F.FiniteField F.SymbolField) c (polynomial (alphabet F.Scalar.FiniteField F.FiniteField F.SymbolField) f.old)) places (polynomial (alphabet F.Scalar.FiniteField F.FiniteField F.SymbolField) f.old) }
 {
     let mut before = F::zero();
     for i in 0..places {
@@ -68,8 +68,8 @@ impl Pair {
     // Qx(x) + Qy(y).
     fn value<F: SymbolField>(&self, k: usize, packet: Packet<F>) -> F
         requires small { (0 < k) × (self.now.degree < room) }
-        requires own { Reaches (alphabet Scalar-as-FiniteField F.FiniteField F.SymbolField) k (pair_of (alphabet Scalar-as-FiniteField F.FiniteField F.SymbolField) self.now) self.now.degree }
-        ensures { result ≡ pair_value (alphabet Scalar-as-FiniteField F.FiniteField F.SymbolField) (pair_of (alphabet Scalar-as-FiniteField F.FiniteField F.SymbolField) self.now) packet }
+        requires own { Reaches (alphabet F.Scalar.FiniteField F.FiniteField F.SymbolField) k (pair_of (alphabet F.Scalar.FiniteField F.FiniteField F.SymbolField) self.now) self.now.degree }
+        ensures { result ≡ pair_value (alphabet F.Scalar.FiniteField F.FiniteField F.SymbolField) (pair_of (alphabet F.Scalar.FiniteField F.FiniteField F.SymbolField) self.now) packet }
     {
         let in_x: F = evaluate::<F, AsCodes>(&self.x[0..self.degree + 1], packet.x);
         let in_y: F = evaluate::<F, AsCodes>(&self.y[0..self.y_places(k)], packet.y);
@@ -79,9 +79,9 @@ impl Pair {
     // a times this pair plus b times the other, in place of this pair.
     fn mix<F: SymbolField>(&mut self, k: usize, a: F, other: &Pair, b: F)
         requires small { (0 < k) × (self.old.degree < room) }
-        requires own { Reaches (alphabet Scalar-as-FiniteField F.FiniteField F.SymbolField) k (pair_of (alphabet Scalar-as-FiniteField F.FiniteField F.SymbolField) self.old) self.old.degree }
-        requires other { (b ≡ F.FiniteField.field.zero) ⊎ Reaches (alphabet Scalar-as-FiniteField F.FiniteField F.SymbolField) k (pair_of (alphabet Scalar-as-FiniteField F.FiniteField F.SymbolField) other.now) self.old.degree }
-        ensures mixes { Mixes (alphabet Scalar-as-FiniteField F.FiniteField F.SymbolField) a (pair_of (alphabet Scalar-as-FiniteField F.FiniteField F.SymbolField) self.old) b (pair_of (alphabet Scalar-as-FiniteField F.FiniteField F.SymbolField) other.now) (pair_of (alphabet Scalar-as-FiniteField F.FiniteField F.SymbolField) self.new) }
+        requires own { Reaches (alphabet F.Scalar.FiniteField F.FiniteField F.SymbolField) k (pair_of (alphabet F.Scalar.FiniteField F.FiniteField F.SymbolField) self.old) self.old.degree }
+        requires other { (b ≡ F.FiniteField.field.zero) ⊎ Reaches (alphabet F.Scalar.FiniteField F.FiniteField F.SymbolField) k (pair_of (alphabet F.Scalar.FiniteField F.FiniteField F.SymbolField) other.now) self.old.degree }
+        ensures mixes { Mixes (alphabet F.Scalar.FiniteField F.FiniteField F.SymbolField) a (pair_of (alphabet F.Scalar.FiniteField F.FiniteField F.SymbolField) self.old) b (pair_of (alphabet F.Scalar.FiniteField F.FiniteField F.SymbolField) other.now) (pair_of (alphabet F.Scalar.FiniteField F.FiniteField F.SymbolField) self.new) }
         ensures degree { self.new.degree ≡ self.old.degree }
     {
         let x_places = self.degree + 1;
@@ -94,8 +94,8 @@ impl Pair {
     fn raise<F: SymbolField>(&mut self, k: usize, v: F)
         requires small { (0 < k) × (self.old.degree + 1 < room) }
         requires some { v ≢ F.FiniteField.field.zero }
-        requires own { Reaches (alphabet Scalar-as-FiniteField F.FiniteField F.SymbolField) k (pair_of (alphabet Scalar-as-FiniteField F.FiniteField F.SymbolField) self.old) self.old.degree }
-        ensures raises { Raises (alphabet Scalar-as-FiniteField F.FiniteField F.SymbolField) v (pair_of (alphabet Scalar-as-FiniteField F.FiniteField F.SymbolField) self.old) (pair_of (alphabet Scalar-as-FiniteField F.FiniteField F.SymbolField) self.new) }
+        requires own { Reaches (alphabet F.Scalar.FiniteField F.FiniteField F.SymbolField) k (pair_of (alphabet F.Scalar.FiniteField F.FiniteField F.SymbolField) self.old) self.old.degree }
+        ensures raises { Raises (alphabet F.Scalar.FiniteField F.FiniteField F.SymbolField) v (pair_of (alphabet F.Scalar.FiniteField F.FiniteField F.SymbolField) self.old) (pair_of (alphabet F.Scalar.FiniteField F.FiniteField F.SymbolField) self.new) }
         ensures degree { self.new.degree ≡ self.old.degree + 1 }
     {
         let Some(inverse) = v.inverse() else {
@@ -113,7 +113,7 @@ impl Pair {
 // x alone, and y alone.
 fn start<F: SymbolField>(k: usize) -> State
     requires { 0 < k }
-    ensures { IsStart (alphabet Scalar-as-FiniteField F.FiniteField F.SymbolField) k (state_of (alphabet Scalar-as-FiniteField F.FiniteField F.SymbolField) result) }
+    ensures { IsStart (alphabet F.Scalar.FiniteField F.FiniteField F.SymbolField) k (state_of (alphabet F.Scalar.FiniteField F.FiniteField F.SymbolField) result) }
 {
     let none = [0; PLACES];
     let mut one = none;
@@ -146,9 +146,9 @@ impl State {
     // One packet more, on which both pairs vanish after.
     fn next<F: SymbolField>(&mut self, k: usize, packet: Packet<F>)
         requires small { (0 < k) × ((self.old.first.degree + 1 < room) × (self.old.second.degree + 1 < room)) }
-        requires first { Reaches (alphabet Scalar-as-FiniteField F.FiniteField F.SymbolField) k (pair_of (alphabet Scalar-as-FiniteField F.FiniteField F.SymbolField) self.old.first) self.old.first.degree }
-        requires second { Reaches (alphabet Scalar-as-FiniteField F.FiniteField F.SymbolField) k (pair_of (alphabet Scalar-as-FiniteField F.FiniteField F.SymbolField) self.old.second) self.old.second.degree }
-        ensures { Next (alphabet Scalar-as-FiniteField F.FiniteField F.SymbolField) (state_of (alphabet Scalar-as-FiniteField F.FiniteField F.SymbolField) self.old) packet (state_of (alphabet Scalar-as-FiniteField F.FiniteField F.SymbolField) self.new) }
+        requires first { Reaches (alphabet F.Scalar.FiniteField F.FiniteField F.SymbolField) k (pair_of (alphabet F.Scalar.FiniteField F.FiniteField F.SymbolField) self.old.first) self.old.first.degree }
+        requires second { Reaches (alphabet F.Scalar.FiniteField F.FiniteField F.SymbolField) k (pair_of (alphabet F.Scalar.FiniteField F.FiniteField F.SymbolField) self.old.second) self.old.second.degree }
+        ensures { Next (alphabet F.Scalar.FiniteField F.FiniteField F.SymbolField) (state_of (alphabet F.Scalar.FiniteField F.FiniteField F.SymbolField) self.old) packet (state_of (alphabet F.Scalar.FiniteField F.FiniteField F.SymbolField) self.new) }
     {
         let first = self.first.value(k, packet);
         let second = self.second.value(k, packet);
@@ -166,7 +166,7 @@ impl State {
 // A pair that vanishes on the packets, of least weighted degree.
 pub(crate) fn interpolate<F: SymbolField>(k: usize, packets: &[Packet<F>]) -> Pair
     requires { (0 < k) × ((k ≤ 16) × (length packets.now ≤ 32)) }
-    ensures { Interpolates (alphabet Scalar-as-FiniteField F.FiniteField F.SymbolField) k (τ (length packets.now) k) (Span (packet_rows (alphabet Scalar-as-FiniteField F.FiniteField F.SymbolField)) packets.now) (polynomial (alphabet Scalar-as-FiniteField F.FiniteField F.SymbolField) result.x) (polynomial (alphabet Scalar-as-FiniteField F.FiniteField F.SymbolField) result.y) }
+    ensures { Interpolates (alphabet F.Scalar.FiniteField F.FiniteField F.SymbolField) k (τ (length packets.now) k) (Span (packet_rows (alphabet F.Scalar.FiniteField F.FiniteField F.SymbolField)) packets.now) (polynomial (alphabet F.Scalar.FiniteField F.FiniteField F.SymbolField) result.x) (polynomial (alphabet F.Scalar.FiniteField F.FiniteField F.SymbolField) result.y) }
 {
     let mut state = start::<F>(k);
     for packet in packets {

@@ -1,4 +1,6 @@
 // The collector for the Koetter-Kschischang subspace code.
+#![tactic(auto)]
+
 mod adding;
 mod code_row;
 mod decoding;

@@ -8,11 +8,11 @@ ghost use Rattle.collector.specs.Interpolation.{polynomial};
 use crate::adding::add_row;
 use crate::code_row::CodeRow;
 use crate::row::Row;
-use code::evaluation::evaluate;
-use code::holding::AsCodes;
 use field::{FiniteField, SymbolField};
 use packet::Packet;
 use std::marker::PhantomData;
+use subspace_code::evaluation::evaluate;
+use subspace_code::holding::AsCodes;
 
 // As many coordinates as a symbol has at most: symbols span no more dimensions.
 const COORDINATES: usize = 16;
@@ -20,7 +20,7 @@ const COORDINATES: usize = 16;
 // y − f(x), as a row.
 fn residual_row<F: SymbolField>(message: &[u32], packet: Packet<F>) -> CodeRow<F>
     ensures valid { result.code < F.FiniteField.size }
-    ensures symbol { F.FiniteField.element result.code ≡ residual (alphabet Scalar-as-FiniteField F.FiniteField F.SymbolField) (polynomial (alphabet Scalar-as-FiniteField F.FiniteField F.SymbolField) message.now) packet }
+    ensures symbol { F.FiniteField.element result.code ≡ residual (alphabet F.Scalar.FiniteField F.FiniteField F.SymbolField) (polynomial (alphabet F.Scalar.FiniteField F.FiniteField F.SymbolField) message.now) packet }
 {
     let value: F = evaluate::<F, AsCodes>(message, packet.x);
     CodeRow {
@@ -31,7 +31,7 @@ fn residual_row<F: SymbolField>(message: &[u32], packet: Packet<F>) -> CodeRow<F
 
 // The dimension of the residuals y − f(x) of the packets.
 pub(crate) fn measure<F: SymbolField>(message: &[u32], packets: &[Packet<F>]) -> usize
-    ensures { IsDim (symbol_rows (alphabet Scalar-as-FiniteField F.FiniteField F.SymbolField)) (Span (symbol_rows (alphabet Scalar-as-FiniteField F.FiniteField F.SymbolField)) (map (residual (alphabet Scalar-as-FiniteField F.FiniteField F.SymbolField) (polynomial (alphabet Scalar-as-FiniteField F.FiniteField F.SymbolField) message.now)) packets.now)) result }
+    ensures { IsDim (symbol_rows (alphabet F.Scalar.FiniteField F.FiniteField F.SymbolField)) (Span (symbol_rows (alphabet F.Scalar.FiniteField F.FiniteField F.SymbolField)) (map (residual (alphabet F.Scalar.FiniteField F.FiniteField F.SymbolField) (polynomial (alphabet F.Scalar.FiniteField F.FiniteField F.SymbolField) message.now)) packets.now)) result }
 {
     let none: CodeRow<F> = CodeRow {
         code: 0,

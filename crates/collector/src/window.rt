@@ -82,7 +82,7 @@ fn headers_below<F: SymbolField>(packets: &[Packet<F>], limit: u32) -> bool
 // Whether the packets are a window of this dimension with x codes below q^ℓ.
 pub(crate) fn is_window<F: SymbolField>(packets: &[Packet<F>], dim: usize, l: usize) -> bool
     requires { l ≤ F.SymbolField.m }
-    ensures { (result ≡ true) ↔ PacketWindow (alphabet Scalar-as-FiniteField F.FiniteField F.SymbolField) l dim packets.now }
+    ensures { (result ≡ true) ↔ PacketWindow (alphabet F.Scalar.FiniteField F.FiniteField F.SymbolField) l dim packets.now }
 {
     if packets.len() < dim
         || !is_reduced(&packets[0..dim])

@@ -14,11 +14,11 @@ use field::nibble::Nibble;
 use field::octet::Octet;
 use field::word::Word;
 use field::{FiniteField, SymbolField};
+use log_feed::LogFeed;
+use packet::Packet;
 use portal_log::head::Head;
 use portal_log::name::{FieldName, LogField};
 use portal_log::reader::open;
-use log_feed::LogFeed;
-use packet::Packet;
 use sending::writing::{head_line, packet_lines};
 use std::alloc::{AllocError, Global};
 use std::io;
@@ -29,7 +29,7 @@ fn relayed<F: SymbolField, D: Feed<Item = Packet<F>> + Drop>(
     heap: Global,
     feed: D,
 ) -> Result<Vec<Packet<F>>, AllocError>
-    ensures { IfOk result (λ v. v.items ≡ stirred (alphabet Scalar-as-FiniteField F.FiniteField F.SymbolField) Scalar-as-FiniteField.field.one (joined (gapped 0 (list feed)) (held (record { x = F.FiniteField.field.one; y = F.FiniteField.field.one } ∷ [])))) }
+    ensures { IfOk result (λ v. v.items ≡ stirred (alphabet F.Scalar.FiniteField F.FiniteField F.SymbolField) F.Scalar.FiniteField.field.one (joined (gapped 0 (D.list feed)) (held (record { x = F.FiniteField.field.one; y = F.FiniteField.field.one } ∷ [])))) }
 {
     let mut other = Vec::new(heap);
     other.push(Packet {

@@ -14,7 +14,7 @@ use Rattle.field.specs.Extensions.{extension}
 use Rattle.linearized.specs.Polynomials.{at, counted, composed, Divided}
 use Rattle.linearized.proofs.Counts.{counted_length, counted_some}
 use Rattle.linearized.proofs.Compositions.{composed_zero}
-use Rattle.code.proofs.Slots.{at_past}
+use Rattle.subspace_code.proofs.Slots.{at_past}
 
 pub octets_lawful : Lawful octet_alphabet
 unfolding computing

@@ -15,7 +15,7 @@ pub struct Gap<D> {
 
 impl<D: Feed> Gap<D> {
     pub fn new(lower: D, place: usize) -> Gap<D>
-        ensures list { gap_list list result ≡ gapped place (list lower) }
+        ensures list { gap_list D.list result ≡ gapped place (D.list lower) }
         ensures lower { result.lower ≡ lower }
     {
         Gap {

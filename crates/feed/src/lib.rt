@@ -1,4 +1,6 @@
 // Feeds: lists of packets that are given out one by one, and layers over them.
+#![tactic(auto)]
+
 ghost use Rattle.std.specs.Prelude.{◌≡◌, ◌≤◌, List, [], ◌∷◌, length};
 ghost use Rattle.std.specs.Borrow.{GName};
 ghost use Rattle.feed.specs.Feeds.{feed_limit, Next};
@@ -42,7 +44,7 @@ impl<D: Feed> Feed for &mut D {
 
     ghost short = { λ s. D.Feed.short s.now };
 
-    ghost lenders = { λ s. s.name ∷ D.Feed.lenders s.now };
+    ghost lenders = { λ s. s.ghost_name ∷ D.Feed.lenders s.now };
 
     fn len(&self) -> usize {
         (**self).len()

@@ -19,8 +19,8 @@ pub struct Stir<F: SymbolField, D> {
 
 impl<F: SymbolField, D: Feed<Item = Packet<F>>> Stir<F, D> {
     pub fn new(lower: D, scalar: F::Scalar) -> Stir<F, D>
-        ensures list { stir_list (alphabet F.Scalar.FiniteField F.FiniteField F.SymbolField) list result ≡ stirred (alphabet F.Scalar.FiniteField F.FiniteField F.SymbolField) scalar (list lower) }
-        ensures stirs { Stirs (alphabet F.Scalar.FiniteField F.FiniteField F.SymbolField) scalar (list lower) (stir_list (alphabet F.Scalar.FiniteField F.FiniteField F.SymbolField) list result) }
+        ensures list { stir_list (alphabet F.Scalar.FiniteField F.FiniteField F.SymbolField) D.list result ≡ stirred (alphabet F.Scalar.FiniteField F.FiniteField F.SymbolField) scalar (D.list lower) }
+        ensures stirs { Stirs (alphabet F.Scalar.FiniteField F.FiniteField F.SymbolField) scalar (D.list lower) (stir_list (alphabet F.Scalar.FiniteField F.FiniteField F.SymbolField) D.list result) }
         ensures lower { result.lower ≡ lower }
     {
         Stir {

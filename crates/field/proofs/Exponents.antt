@@ -1,6 +1,6 @@
 -- Octets as powers of 03: exponents of factors add up, modulo 255.
 -- Assumes nothing.
-use Rattle.std.proofs.Common.{◌≡◌, ℕ, ◌+◌, ◌<◌, sym, refl, ap, ◌∙◌, ap₂, lit<}
+use Rattle.std.proofs.Common.{◌≡◌, ℕ, ◌+◌, sym, refl, ap, ◌∙◌, ap₂, lit<}
 use Rattle.binary.specs.Codes.{pow}
 use Rattle.binary.specs.Products.{octet_product}
 use Rattle.binary.proofs.Powers.{one-mul, pow_in, pow-add}

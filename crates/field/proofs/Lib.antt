@@ -4,3 +4,4 @@ pub mod Symbols
 pub mod Tables
 pub mod Exponents
 pub mod LinearMaps
+pub mod Members

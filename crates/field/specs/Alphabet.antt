@@ -1,15 +1,15 @@
 -- Symbols with their scalars, as one thing that definitions speak of.
---   Alphabet K S    what a symbol field on S over the scalars K offers
---   alphabet        the alphabet of a type that is a symbol field
---   Lawful          the alphabet keeps the laws of a symbol field
---   symbol_rows     single symbols as a kind of row
+--   Alphabet K S     what a symbol field on S over the scalars K offers
+--   SymbolMembers    the ghost members of a type that is a symbol field, as a bound names them
+--   alphabet         the alphabet of a type that is a symbol field
+--   Lawful           the alphabet keeps the laws of a symbol field
+--   symbol_rows      single symbols as a kind of row
 -- Assumes nothing.
 use Rattle.std.specs.Prelude.{ℕ}
 use Rattle.linear.specs.Field.{Field}
 use Rattle.linear.specs.Rows.{Rows}
 use Rattle.field.specs.Laws.{Codes, Extension}
 use Rattle.field.specs.declared.FiniteField.{Ghosts as FieldMembers}
-use Rattle.field.specs.declared.SymbolField.{Ghosts as SymbolMembers}
 
 pub record Alphabet (K S : Type 0) : Type 0 where
   pub scalars : Field K
@@ -25,6 +25,10 @@ pub record Alphabet (K S : Type 0) : Type 0 where
   pub embed : K → S
   pub coord : S → ℕ → K
   pub frobenius : S → S
+
+abbrev pub SymbolMembers : Type 0 → Type 0 → Type 0
+SymbolMembers S K =
+    record { field : Field S; size : ℕ; code : S → ℕ; element : ℕ → S; q : ℕ; m : ℕ; embed : K → S; coord : S → ℕ → K; frobenius : S → S }
 
 abbrev pub alphabet : {K S : Type 0} → FieldMembers K → FieldMembers S → SymbolMembers S K → Alphabet K S
 alphabet scalars symbols over = record {

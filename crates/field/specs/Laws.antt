@@ -3,7 +3,7 @@
 --   of_code     the element of a code, absent from the size on
 --   Extension   symbols over scalars: q scalars, m coordinates in a symbol, the raise
 -- Assumes nothing.
-use Rattle.std.specs.Prelude.{◌≡◌, ℕ, ◌/◌, ◌%◌, ◌^◌, ◌<◌, ◌≤◌, Bool, true, false, cond, ◌↔◌, Some, None, Option, nat_lt}
+use Rattle.std.specs.Prelude.{◌≡◌, ℕ, ◌/◌, ◌%◌, ◌^◌, ◌<◌, ◌≤◌, cond, ◌↔◌, Some, None, Option, nat_lt}
 use Rattle.linear.specs.Field.{Field, power, iterate}
 
 pub record Codes {K : Type 0} (F : Field K) (size : ℕ) (code : K → ℕ) (element : ℕ → K) : Type 0 where

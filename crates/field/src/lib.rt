@@ -1,4 +1,6 @@
 // Finite fields, symbol fields over them, and their laws.
+#![tactic(auto)]
+
 pub mod bit;
 pub mod codes;
 pub mod hex;

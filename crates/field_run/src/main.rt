@@ -1,5 +1,7 @@
 // Runs each field's arithmetic along a chain of pseudo-random symbols, and prints where it ends.
 // Arguments: how many steps, and the name of a field where only one is wanted.
+#![tactic(auto)]
+
 use field::nibble::Nibble;
 use field::octet::Octet;
 use field::word::Word;

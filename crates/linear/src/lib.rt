@@ -1,4 +1,6 @@
 // Linear algebra over any field and any kind of row: theory only. The contract of each function is a theorem.
+#![tactic(auto)]
+
 ghost use Rattle.linear.specs.Theorems.{DimUnique, DimExists, DimIndependent, DimReduced, DimMono, DimFull, DimWidth, DimAdding, SpanDecided, ReducedExists, ReducedUnique, SumSpanned, MeetSpanned, DimSumMeet, KernelSpanned, ImageSpanned, RankNullity};
 
 // A space has at most one dimension.

@@ -1,4 +1,6 @@
 // Linearized polynomials and why decoding is exact: each function's contract is a theorem.
+#![tactic(auto)]
+
 ghost use Rattle.linearized.specs.Theorems.{ValuesLinear, CountedLeast, KernelBound, DivisionStart, DivisionCoefficient, DivisionStepKept, DivisionEnd, DivisionExists, DivisionUnique, InterpolationStart, InterpolationStep, InterpolationNext, InterpolationEnd, InterpolationExists, HeadersSpanned, GraphSpanned, CodewordSpanned, DistanceShared, DistanceExists, DistanceFaults, ResidualRank, SharedMeasured, WithinMeasured, WithinReach, MinimumDistance, CodewordWithin, DecodingExact, DecodingUnique, DecodingMeasured};
 
 pub fn value_laws<K, S>() -> u8

@@ -10,12 +10,12 @@ ghost use Rattle.log_feed.specs.Lengths.{fed_short};
 use answer::refusal::Refusal;
 use feed::Feed;
 use field::{FiniteField, SymbolField};
+use packet::Packet;
 use portal_log::LIMIT;
 use portal_log::head::Head;
 use portal_log::line::{Line, read_packet};
 use portal_log::name::LogField;
 use portal_log::reader::{Reader, open};
-use packet::Packet;
 
 #[cfg(test)]
 mod tests;
@@ -32,7 +32,7 @@ fn names<F: LogField>(head: Option<Head>) -> bool
 
 // The packet of a packet line with this number.
 fn with_number<F: LogField>(number: u8, line: Line<'_>) -> Option<Packet<F>>
-    ensures { result ≡ with_number (alphabet Scalar-as-FiniteField F.FiniteField F.SymbolField) F.LogField.name number (shown line.entry) }
+    ensures { result ≡ with_number (alphabet F.Scalar.FiniteField F.FiniteField F.SymbolField) F.LogField.name number (shown line.entry) }
 {
     let Line::Packet {
         number: part,
@@ -58,7 +58,7 @@ pub struct LogFeed<'a, F> {
 impl<'a, F: LogField> LogFeed<'a, F> {
     // The packets of a number in a log in the field F; refusals come in the order of their numbers.
     pub fn new(log: &'a [u8], number: u8) -> Result<LogFeed<'a, F>, Refusal>
-        ensures { result_map_both (λ s. fed (alphabet Scalar-as-FiniteField F.FiniteField F.SymbolField) F.LogField.name s.number s.reader) (λ e. e) result ≡ answered (feed_refusal F.LogField.name number log.now) (log_packets (alphabet Scalar-as-FiniteField F.FiniteField F.SymbolField) F.LogField.name number log.now) }
+        ensures { result_map_both (λ s. fed (alphabet F.Scalar.FiniteField F.FiniteField F.SymbolField) F.LogField.name s.number s.reader) (λ e. e) result ≡ answered (feed_refusal F.LogField.name number log.now) (log_packets (alphabet F.Scalar.FiniteField F.FiniteField F.SymbolField) F.LogField.name number log.now) }
     {
         let (head, lines) = open(log);
         let long = log.len() > LIMIT;
@@ -80,9 +80,9 @@ impl<'a, F: LogField> LogFeed<'a, F> {
 impl<'a, F: LogField> Feed for LogFeed<'a, F> {
     type Item = Packet<F>;
 
-    ghost list = { λ s. fed (alphabet Scalar-as-FiniteField F.FiniteField F.SymbolField) F.LogField.name s.number s.reader };
+    ghost list = { λ s. fed (alphabet F.Scalar.FiniteField F.FiniteField F.SymbolField) F.LogField.name s.number s.reader };
 
-    ghost short = { λ s. fed_short (alphabet Scalar-as-FiniteField F.FiniteField F.SymbolField) F.LogField.name s.number s.reader };
+    ghost short = { λ s. fed_short (alphabet F.Scalar.FiniteField F.FiniteField F.SymbolField) F.LogField.name s.number s.reader };
 
     fn len(&self) -> usize {
         let mut many = 0;

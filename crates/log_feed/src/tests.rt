@@ -4,9 +4,9 @@ use answer::refusal::Refusal;
 use feed::Feed;
 use field::octet::Octet;
 use field::{FiniteField, SymbolField};
+use packet::Packet;
 use portal_log::line::Line;
 use portal_log::reader::{Reader, open};
-use packet::Packet;
 use std::process::Abort;
 use std::test::Fail;
 

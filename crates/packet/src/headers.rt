@@ -6,7 +6,7 @@ use field::{FiniteField, SymbolField};
 
 // Packets with x codes below q^ℓ span packets with such codes only, in dimension at most ℓ + m.
 pub fn headers_bound<F: SymbolField>() -> u8
-    ensures { HeadersBound (alphabet Scalar-as-FiniteField F.FiniteField F.SymbolField) }
+    ensures { HeadersBound (alphabet F.Scalar.FiniteField F.FiniteField F.SymbolField) }
 {
     0
 }

@@ -1,4 +1,6 @@
 // Packets: what a sender gives out, relays mix and the collector takes.
+#![tactic(auto)]
+
 pub mod headers;
 pub mod rows;
 

@@ -8,14 +8,14 @@ use field::{FiniteField, SymbolField};
 
 impl<F: SymbolField> Packet<F> {
     pub fn zero() -> Packet<F>
-        ensures { result ≡ packet_zero (alphabet Scalar-as-FiniteField F.FiniteField F.SymbolField) }
+        ensures { result ≡ packet_zero (alphabet F.Scalar.FiniteField F.FiniteField F.SymbolField) }
     {
         let zero = F::zero();
         Packet { x: zero, y: zero }
     }
 
     pub fn plus(self, other: Packet<F>) -> Packet<F>
-        ensures { result ≡ packet_sum (alphabet Scalar-as-FiniteField F.FiniteField F.SymbolField) self other }
+        ensures { result ≡ packet_sum (alphabet F.Scalar.FiniteField F.FiniteField F.SymbolField) self other }
     {
         Packet {
             x: self.x.plus(other.x),

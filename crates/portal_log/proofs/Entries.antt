@@ -1,5 +1,5 @@
 -- Lines after the first, by their four parts.
-use Rattle.std.proofs.Common.{◌≡◌, ℕ, suc, ◌+◌, ◌<◌, Bool, true, false, cond, eqb, List, [], ◌∷◌, ◌++◌, length, Some, None, codes, Option, sym, refl, ap, ◌∙◌, subst, append_assoc, arith, length-append}
+use Rattle.std.proofs.Common.{◌≡◌, ℕ, ◌+◌, ◌<◌, eqb, List, [], ◌∷◌, ◌++◌, length, Some, None, codes, Option, sym, refl, ap, ◌∙◌, subst, append_assoc, arith, length-append}
 use Rattle.std.specs.Str.{bytes_eq}
 use Rattle.std.proofs.lemmas.List.{append_cancel_right, nil_from_length}
 use Rattle.std.proofs.lemmas.Bool.{cond-false, cond_both, eqb-true}
@@ -9,7 +9,7 @@ use Rattle.packet.specs.declared.Packet.{Packet}
 use Rattle.portal_log.specs.declared.name.FieldName.{FieldName}
 use Rattle.portal_log.specs.Text.{lf, comma, onto_first, parts, four, line}
 use Rattle.portal_log.specs.Places.{Placed, Stands}
-use Rattle.portal_log.specs.Entries.{Entry, packet_at, erased_at, unreadable_at, EntryStands, packet_of, other_entry, entry_parts, entry}
+use Rattle.portal_log.specs.Entries.{packet_at, erased_at, unreadable_at, EntryStands, packet_of, other_entry, entry_parts, entry}
 use Rattle.portal_log.proofs.Places.{stands_front, stands_after}
 use Rattle.portal_log.proofs.Literals.{Spells, same_not, same_not_spelled, spells_own}
 

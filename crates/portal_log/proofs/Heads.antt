@@ -1,7 +1,6 @@
 -- First lines by their four parts.
-use Rattle.std.proofs.Common.{◌≡◌, ℕ, List, Some, None, codes, Option, sym, refl, ap, ◌∙◌}
+use Rattle.std.proofs.Common.{◌≡◌, ℕ, List, Some, None, codes, sym, ap, ◌∙◌}
 use Rattle.std.proofs.lemmas.Bool.{cond-true, cond-false}
-use Rattle.portal_log.specs.declared.head.Head.{Head}
 use Rattle.portal_log.specs.declared.name.FieldName.{FieldName}
 use Rattle.portal_log.specs.Text.{parts, four}
 use Rattle.portal_log.specs.Numbers.{small}

@@ -1,9 +1,9 @@
 -- Lines and parts at their places.
-use Rattle.std.proofs.Common.{◌≡◌, ℕ, suc, ◌+◌, ◌-◌, ◌<◌, ◌≤◌, List, [], ◌∷◌, ◌++◌, length, take, drop, sym, refl, ap, ◌∙◌, ap₂, ⊎_elim, append_assoc, arith, length-append, length-drop}
+use Rattle.std.proofs.Common.{◌≡◌, ℕ, suc, ◌+◌, ◌<◌, ◌≤◌, List, [], ◌∷◌, ◌++◌, length, take, drop, sym, refl, ap, ◌∙◌, ⊎_elim, append_assoc, arith, length-append, length-drop}
 use Rattle.std.proofs.lemmas.List.{drop_all, drop_at, drop-drop, drop-take, take_at, take-take, length-take-le}
 use Rattle.std.proofs.lemmas.Bool.{cases_lt}
 use Rattle.portal_log.specs.Text.{lf, before, lines}
-use Rattle.portal_log.specs.Places.{Placed, placed, Stands}
+use Rattle.portal_log.specs.Places.{placed, Stands}
 use Rattle.portal_log.proofs.Cuts.{lines_cut, before_within}
 
 pub length_placed : (place : ℕ) (texts : List (List ℕ)) → length (placed place texts) ≡ length texts

@@ -7,7 +7,7 @@
 --   log_entries    what the lines of a log after the first are
 --   log_limit      no feed or sheet reads a log of more bytes
 -- Assumes nothing.
-use Rattle.std.specs.Prelude.{ℕ, cond, List, [], ◌∷◌, map, drop, Some, None, codes, Option, nat_le}
+use Rattle.std.specs.Prelude.{ℕ, cond, List, map, drop, Some, None, codes, Option, nat_le}
 use Rattle.std.specs.Str.{bytes_eq}
 use Rattle.field.specs.Alphabet.{Alphabet}
 use Rattle.packet.specs.declared.Packet.{Packet}

@@ -1,7 +1,7 @@
 -- Symbols in a log: codes of a fixed number of capital hex digits.
 --   symbol   the symbol of a code's text, absent where the text is no code or no symbol has it
 -- Assumes nothing.
-use Rattle.std.specs.Prelude.{ℕ, cond, List, length, Some, None, Ok, Err, Option, Result, ◌==◌}
+use Rattle.std.specs.Prelude.{ℕ, cond, List, length, None, Ok, Err, Option, Result, ◌==◌}
 use Rattle.field.specs.Laws.{of_code}
 use Rattle.field.specs.Alphabet.{Alphabet}
 use Rattle.portal_log.specs.declared.name.FieldName.{FieldName}

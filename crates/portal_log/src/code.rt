@@ -12,7 +12,7 @@ use std::fmt;
 
 // The symbol of a code's text.
 pub fn read_symbol<F: LogField>(part: &[u8]) -> Option<F>
-    ensures { result ≡ symbol (alphabet Scalar-as-FiniteField F.FiniteField F.SymbolField) F.LogField.name part.now }
+    ensures { result ≡ symbol (alphabet F.Scalar.FiniteField F.FiniteField F.SymbolField) F.LogField.name part.now }
 {
     if part.len() != F::name().digits() {
         return None;

@@ -1,6 +1,6 @@
 // The first line of a log: its field and the code's parameters.
 ghost use Rattle.std.specs.Prelude.{◌≡◌};
-ghost use Rattle.code.specs.Encoding.{fits};
+ghost use Rattle.subspace_code.specs.Encoding.{fits};
 ghost use Rattle.portal_log.specs.Heads.{head_of};
 
 use crate::digits::small_decimal;

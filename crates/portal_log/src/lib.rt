@@ -1,4 +1,6 @@
 // Logs as text: their lines, and what the lines say.
+#![tactic(auto)]
+
 pub mod code;
 pub mod digits;
 pub mod head;

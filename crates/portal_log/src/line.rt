@@ -43,7 +43,7 @@ pub fn read_packet<F: LogField>(
     header: &[u8],
     payload: &[u8],
 ) -> Option<(u8, Packet<F>)>
-    ensures { result ≡ packet_of (alphabet Scalar-as-FiniteField F.FiniteField F.SymbolField) F.LogField.name number.now header.now payload.now }
+    ensures { result ≡ packet_of (alphabet F.Scalar.FiniteField F.FiniteField F.SymbolField) F.LogField.name number.now header.now payload.now }
 {
     let number = block_number(number)?;
     let x = read_symbol(header)?;
@@ -59,7 +59,7 @@ fn packet_line<'a, F: LogField>(
     payload: &'a [u8],
 ) -> Line<'a>
     requires { line.place + 4 + length number.now + length header.now < 2 ^ 64 }
-    ensures { shown result ≡ entry_parts (alphabet Scalar-as-FiniteField F.FiniteField F.SymbolField) F.LogField.name (part_of line.entry) (codes "P" ∷ number.now ∷ header.now ∷ payload.now ∷ []) }
+    ensures { shown result ≡ entry_parts (alphabet F.Scalar.FiniteField F.FiniteField F.SymbolField) F.LogField.name (part_of line.entry) (codes "P" ∷ number.now ∷ header.now ∷ payload.now ∷ []) }
 {
     if read_packet::<F>(number, header, payload).is_none() {
         return Line::Unreadable(line);
@@ -86,7 +86,7 @@ fn packet_line<'a, F: LogField>(
 // What a line after the first is.
 pub(crate) fn read_line<F: LogField>(line: Part<'_>) -> Line<'_>
     requires { line.place + length line.text.now < 2 ^ 64 }
-    ensures { shown result ≡ entry (alphabet Scalar-as-FiniteField F.FiniteField F.SymbolField) F.LogField.name (part_of line.entry) }
+    ensures { shown result ≡ entry (alphabet F.Scalar.FiniteField F.FiniteField F.SymbolField) F.LogField.name (part_of line.entry) }
 {
     let Some((kind, number, header, payload)) = four_parts(line.text) else {
         return Line::Unreadable(line);

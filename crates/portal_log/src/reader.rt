@@ -57,7 +57,7 @@ impl<'a, F: LogField> Reader<'a, F> {
 impl<'a, F: LogField> Iterator for Reader<'a, F> {
     type Item = Line<'a>;
 
-    ghost next_gives = { GivesEntry (alphabet Scalar-as-FiniteField F.FiniteField F.SymbolField) F.LogField.name };
+    ghost next_gives = { GivesEntry (alphabet F.Scalar.FiniteField F.FiniteField F.SymbolField) F.LogField.name };
 
     ghost remaining = { λ s. at_most (length (left_lines s.lines)) };
 

@@ -1,9 +1,9 @@
 -- Answers that are gathered one by one.
-use Rattle.std.proofs.Common.{◌≡◌, List, [], ◌∷◌, ◌++◌, IsErrAnd, Ok, Err, Result, sym, refl, ap, ◌∙◌, subst, append_assoc}
+use Rattle.std.proofs.Common.{◌≡◌, List, [], ◌∷◌, ◌++◌, IsErrAnd, Ok, Err, Result, sym, refl, ap, subst, append_assoc}
 use Rattle.answer.specs.declared.refusal.Refusal.{Refusal}
 use Rattle.sending.specs.declared.fault.Fault.{Fault}
-use Rattle.sending.specs.declared.fault.Fault.TheVariants.{Refused, Memory}
-use Rattle.sending.specs.Outcomes.{onto, all, Answers}
+use Rattle.sending.specs.declared.fault.Fault.TheVariants.{Memory}
+use Rattle.sending.specs.Outcomes.{onto, Answers}
 
 module _ {X E : Type 0} where
   -- the values xs, and then those of the others

@@ -9,7 +9,7 @@ use Rattle.packet.specs.declared.Packet.{Packet}
 use Rattle.answer.specs.declared.refusal.Refusal.{Refusal}
 use Rattle.answer.specs.declared.refusal.Refusal.TheVariants.{MessageLength, LineShape}
 use Rattle.linearized.specs.Code.{packets}
-use Rattle.code.specs.Encoding.{fits, encode_refusal, encoded}
+use Rattle.subspace_code.specs.Encoding.{fits, encode_refusal, encoded}
 use Rattle.answer.specs.Refusals.{first_cause, answered}
 use Rattle.portal_log.specs.declared.name.FieldName.{FieldName}
 use Rattle.portal_log.specs.Symbols.{symbol}

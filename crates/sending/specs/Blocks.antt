@@ -18,7 +18,7 @@ use Rattle.packet.specs.declared.Packet.{Packet}
 use Rattle.answer.specs.declared.refusal.Refusal.{Refusal}
 use Rattle.answer.specs.declared.refusal.Refusal.TheVariants.{Parameters, BlockNumber, MessageLength, LineShape}
 use Rattle.linearized.specs.Code.{packets}
-use Rattle.code.specs.Encoding.{fits}
+use Rattle.subspace_code.specs.Encoding.{fits}
 use Rattle.answer.specs.Refusals.{number, first_cause, answered}
 use Rattle.portal_log.specs.declared.head.Head.{Head}
 use Rattle.portal_log.specs.declared.name.FieldName.{FieldName}

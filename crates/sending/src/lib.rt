@@ -1,7 +1,9 @@
 // What a sender gives out: the log lines of a block sheet's packets.
+#![tactic(auto)]
+
 ghost use Rattle.std.specs.Prelude.{◌≡◌, ◌+◌, ◌^◌, ◌<◌, true, length, IfOk, vec_len, string_bytes};
 ghost use Rattle.field.specs.Alphabet.{alphabet};
-ghost use Rattle.code.specs.Encoding.{fits};
+ghost use Rattle.subspace_code.specs.Encoding.{fits};
 ghost use Rattle.portal_log.specs.Text.{parts};
 ghost use Rattle.sending.specs.Outcomes.{and_then, Answers};
 ghost use Rattle.sending.specs.Blocks.{printed, block_of, block_text, blocks_text, sent_in, sent_by, sent};
@@ -15,17 +17,17 @@ use crate::block::Block;
 use crate::fault::Fault;
 use crate::writing::{head_line, packet_lines, refusal_line};
 use answer::refusal::Refusal;
-use code::encoding::encode;
 use field::nibble::Nibble;
 use field::octet::Octet;
 use field::word::Word;
 use field::{FiniteField, SymbolField};
+use packet::Packet;
 use portal_log::head::Head;
 use portal_log::name::{FieldName, LogField};
 use portal_log::reader::open;
 use portal_log::text::Lines;
-use packet::Packet;
 use std::alloc::{AllocError, Global};
+use subspace_code::encoding::encode;
 
 // Places for l packets.
 fn places<F: LogField>(heap: Global, l: usize) -> Result<Vec<Packet<F>>, AllocError>
@@ -47,7 +49,7 @@ fn block_lines<F: LogField>(
     message: &[F],
 ) -> Result<String, Fault>
     requires { fits k l F.SymbolField.m ≡ true }
-    ensures { Answers string_bytes result (block_text (alphabet Scalar-as-FiniteField F.FiniteField F.SymbolField) F.LogField.name k l (number, message.now)) }
+    ensures { Answers string_bytes result (block_text (alphabet F.Scalar.FiniteField F.FiniteField F.SymbolField) F.LogField.name k l (number, message.now)) }
 {
     let mut packets = places(heap, l)?;
     encode(k, l, message, &mut packets)?;
@@ -57,7 +59,7 @@ fn block_lines<F: LogField>(
 // The lines that come of a block line.
 fn line_text<F: LogField>(heap: Global, k: usize, l: usize, line: &[u8]) -> Result<String, Fault>
     requires { fits k l F.SymbolField.m ≡ true }
-    ensures { Answers string_bytes result (and_then (block_of (alphabet Scalar-as-FiniteField F.FiniteField F.SymbolField) F.LogField.name (parts line.now)) (block_text (alphabet Scalar-as-FiniteField F.FiniteField F.SymbolField) F.LogField.name k l)) }
+    ensures { Answers string_bytes result (and_then (block_of (alphabet F.Scalar.FiniteField F.FiniteField F.SymbolField) F.LogField.name (parts line.now)) (block_text (alphabet F.Scalar.FiniteField F.FiniteField F.SymbolField) F.LogField.name k l)) }
 {
     let block = Block::<F>::read(heap, line)?;
     block_lines(heap, k, l, block.number, &block.message)
@@ -73,7 +75,7 @@ fn send_blocks<F: LogField>(
 ) -> Result<String, AllocError>
     requires fits { fits k l F.SymbolField.m ≡ true }
     requires few { length (left_lines lines) + 1 < 2 ^ 64 }
-    ensures { IfOk result (λ t. string_bytes t ≡ printed (string_bytes text) (blocks_text (alphabet Scalar-as-FiniteField F.FiniteField F.SymbolField) F.LogField.name k l 2 (left_lines lines.entry))) }
+    ensures { IfOk result (λ t. string_bytes t ≡ printed (string_bytes text) (blocks_text (alphabet F.Scalar.FiniteField F.FiniteField F.SymbolField) F.LogField.name k l 2 (left_lines lines.entry))) }
 {
     let mut number = 1;
     for line in lines {
@@ -90,7 +92,7 @@ fn send_blocks<F: LogField>(
 // What is printed for a sheet in the field F.
 fn send_in<F: LogField>(heap: Global, head: Head, lines: Lines<'_>) -> Result<String, AllocError>
     requires { length (left_lines lines) + 1 < 2 ^ 64 }
-    ensures { IfOk result (λ t. string_bytes t ≡ sent_in (alphabet Scalar-as-FiniteField F.FiniteField F.SymbolField) F.LogField.name head (left_lines lines.entry)) }
+    ensures { IfOk result (λ t. string_bytes t ≡ sent_in (alphabet F.Scalar.FiniteField F.FiniteField F.SymbolField) F.LogField.name head (left_lines lines.entry)) }
 {
     if !head.fits(F::m()) {
         return refusal_line(heap, Refusal::Parameters, 1);

@@ -7,10 +7,10 @@ ghost use Rattle.sending.specs.Blocks.{refusal_line, packet_line};
 
 use answer::refusal::Refusal;
 use field::{FiniteField, SymbolField};
+use packet::Packet;
 use portal_log::code::Code;
 use portal_log::head::Head;
 use portal_log::name::LogField;
-use packet::Packet;
 use std::alloc::{AllocError, Global};
 
 // A refusal as the whole output, with the number of its line.
@@ -41,7 +41,7 @@ fn packet_line<F: LogField>(
     number: u8,
     packet: Packet<F>,
 ) -> Result<String, AllocError>
-    ensures { IfOk result (λ t. string_bytes t ≡ packet_line (alphabet Scalar-as-FiniteField F.FiniteField F.SymbolField) F.LogField.name number packet) }
+    ensures { IfOk result (λ t. string_bytes t ≡ packet_line (alphabet F.Scalar.FiniteField F.FiniteField F.SymbolField) F.LogField.name number packet) }
 {
     let x = Code(packet.x);
     let y = Code(packet.y);
@@ -54,7 +54,7 @@ pub fn packet_lines<F: LogField>(
     number: u8,
     packets: &[Packet<F>],
 ) -> Result<String, AllocError>
-    ensures { IfOk result (λ t. string_bytes t ≡ flat_map (packet_line (alphabet Scalar-as-FiniteField F.FiniteField F.SymbolField) F.LogField.name number) packets.now) }
+    ensures { IfOk result (λ t. string_bytes t ≡ flat_map (packet_line (alphabet F.Scalar.FiniteField F.FiniteField F.SymbolField) F.LogField.name number) packets.now) }
 {
     let mut text = String::new(heap);
     for packet in packets {

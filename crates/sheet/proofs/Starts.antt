@@ -5,7 +5,7 @@ use Rattle.field.specs.Alphabet.{Alphabet}
 use Rattle.packet.specs.declared.Packet.{Packet}
 use Rattle.answer.specs.declared.refusal.Refusal.{Refusal}
 use Rattle.answer.specs.Refusals.{First}
-use Rattle.code.specs.Encoding.{fits}
+use Rattle.subspace_code.specs.Encoding.{fits}
 use Rattle.collector.specs.Session.{Allowed, start_refusals}
 
 pub fits_allowed : (k ℓ m : ℕ) → fits k ℓ m ≡ true → Allowed k ℓ m

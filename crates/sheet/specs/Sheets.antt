@@ -20,7 +20,7 @@ use Rattle.answer.specs.declared.refusal.Refusal.TheVariants.{Parameters, Rows, 
 use Rattle.answer.specs.declared.Drained.{Drained}
 use Rattle.answer.specs.declared.Solved.{Solved}
 use Rattle.answer.specs.Refusals.{number}
-use Rattle.code.specs.Encoding.{fits}
+use Rattle.subspace_code.specs.Encoding.{fits}
 use Rattle.portal_log.specs.declared.head.Head.{Head}
 use Rattle.portal_log.specs.declared.name.FieldName.{FieldName}
 use Rattle.portal_log.specs.declared.name.FieldName.TheVariants.{Octet, Word, Nibble}

@@ -12,8 +12,8 @@ use portal_log::reader::{Reader, open};
 // How many erased slots a log has, and how many lines that cannot be read.
 pub(crate) fn count_lines<F: LogField>(log: &[u8]) -> (usize, usize)
     requires { length log.now ≤ log_limit }
-    ensures erased { result.0 ≡ erased (log_entries (alphabet Scalar-as-FiniteField F.FiniteField F.SymbolField) F.LogField.name log.now) }
-    ensures unreadable { result.1 ≡ unreadable (log_entries (alphabet Scalar-as-FiniteField F.FiniteField F.SymbolField) F.LogField.name log.now) }
+    ensures erased { result.0 ≡ erased (log_entries (alphabet F.Scalar.FiniteField F.FiniteField F.SymbolField) F.LogField.name log.now) }
+    ensures unreadable { result.1 ≡ unreadable (log_entries (alphabet F.Scalar.FiniteField F.FiniteField F.SymbolField) F.LogField.name log.now) }
 {
     let (_, lines) = open(log);
     let reader: Reader<'_, F> = Reader::of(lines);

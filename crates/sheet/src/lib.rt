@@ -1,7 +1,7 @@
 // The hand-over sheet of a log: which blocks came through, and what was lost on the way.
 ghost use Rattle.std.specs.Prelude.{◌≡◌, ◌≤◌, length, IfOk, Some, vec_len, string_bytes};
 ghost use Rattle.field.specs.Alphabet.{alphabet};
-ghost use Rattle.code.specs.Encoding.{fits};
+ghost use Rattle.subspace_code.specs.Encoding.{fits};
 ghost use Rattle.portal_log.specs.Text.{lines};
 ghost use Rattle.portal_log.specs.Heads.{first_head};
 ghost use Rattle.portal_log.specs.Entries.{log_limit};
@@ -19,11 +19,11 @@ use field::nibble::Nibble;
 use field::octet::Octet;
 use field::word::Word;
 use field::{FiniteField, SymbolField};
+use packet::Packet;
 use portal_log::LIMIT;
 use portal_log::head::Head;
 use portal_log::name::{FieldName, LogField};
 use portal_log::reader::open;
-use packet::Packet;
 use std::alloc::{AllocError, Global};
 
 // So many copies of a value.
@@ -42,7 +42,7 @@ fn sheet_in<F: LogField>(heap: Global, head: Head, log: &[u8]) -> Result<String,
     requires short { length log.now ≤ log_limit }
     requires first { first_head (lines log.now) ≡ Some head }
     requires field { head.name ≡ F.LogField.name }
-    ensures { IfOk result (λ t. SheetFits (alphabet Scalar-as-FiniteField F.FiniteField F.SymbolField) F.LogField.name (fits head.k head.l F.SymbolField.m) head log.now (string_bytes t)) }
+    ensures { IfOk result (λ t. SheetFits (alphabet F.Scalar.FiniteField F.FiniteField F.SymbolField) F.LogField.name (fits head.k head.l F.SymbolField.m) head log.now (string_bytes t)) }
 {
     let m = F::m();
     if !head.fits(m) {

@@ -2,7 +2,7 @@
 ghost use Rattle.std.specs.Prelude.{◌≡◌, ℕ, ◌+◌, ◌*◌, ◌<◌, ◌≤◌, true, List, length, IfOk, None, string_bytes};
 ghost use Rattle.field.specs.Alphabet.{alphabet};
 ghost use Rattle.packet.specs.declared.Packet.{Packet as PacketOf};
-ghost use Rattle.code.specs.Encoding.{fits};
+ghost use Rattle.subspace_code.specs.Encoding.{fits};
 ghost use Rattle.collector.specs.Machine.{Machine, shut};
 ghost use Rattle.collector.specs.Runs.{Represents};
 ghost use Rattle.feed.specs.Feeds.{feed_limit};
@@ -16,10 +16,10 @@ use answer::{Drained, Solved};
 use collector::session::Session;
 use feed::Feed;
 use field::{FiniteField, SymbolField};
-use portal_log::head::Head;
-use portal_log::name::LogField;
 use log_feed::LogFeed;
 use packet::Packet;
+use portal_log::head::Head;
+use portal_log::name::LogField;
 use std::alloc::{AllocError, Global};
 
 // The lines of all eight numbers, and how many packets were kept and passed over.
@@ -59,10 +59,10 @@ fn collect_feed<F: SymbolField, D: Feed<Item = Packet<F>> + Drop>(
     message: &mut [F],
 ) -> Outcome
     requires below { number < 8 }
-    requires stands { Standing (alphabet Scalar-as-FiniteField F.FiniteField F.SymbolField) number (record { session = session.now; rows = rows.old }) }
-    ensures done { (k ℓ : ℕ) (later : List (PacketOf F)) (m : Machine F) → Represents (alphabet Scalar-as-FiniteField F.FiniteField F.SymbolField) k ℓ later (record { session = session.entry.now; rows = rows.old }) m → m number ≡ shut → NumberDone (alphabet Scalar-as-FiniteField F.FiniteField F.SymbolField) k ℓ later m number (list feed) (record { drain = result.drained; output = message.old; written = message.new; solve = result.solved }) (record { session = session.exit.now; rows = rows.new }) }
+    requires stands { Standing (alphabet F.Scalar.FiniteField F.FiniteField F.SymbolField) number (record { session = session.now; rows = rows.old }) }
+    ensures done { (k ℓ : ℕ) (later : List (PacketOf F)) (m : Machine F) → Represents (alphabet F.Scalar.FiniteField F.FiniteField F.SymbolField) k ℓ later (record { session = session.entry.now; rows = rows.old }) m → m number ≡ shut → NumberDone (alphabet F.Scalar.FiniteField F.FiniteField F.SymbolField) k ℓ later m number (D.list feed) (record { drain = result.drained; output = message.old; written = message.new; solve = result.solved }) (record { session = session.exit.now; rows = rows.new }) }
     ensures taken { result.taken ≡ taken result.drained }
-    ensures passed { result.passed ≡ passed (length (list feed)) result.drained }
+    ensures passed { result.passed ≡ passed (length (D.list feed)) result.drained }
     ensures few { result.taken + result.passed ≤ feed_limit }
 {
     let Ok(()) = session.open(rows, number) else {
@@ -89,11 +89,11 @@ fn collect_number<F: LogField>(
     message: &mut [F],
 ) -> Outcome
     requires below { number < 8 }
-    requires stands { Standing (alphabet Scalar-as-FiniteField F.FiniteField F.SymbolField) number (record { session = session.now; rows = rows.old }) }
+    requires stands { Standing (alphabet F.Scalar.FiniteField F.FiniteField F.SymbolField) number (record { session = session.now; rows = rows.old }) }
     requires feeds { feed_refusal F.LogField.name number log.now ≡ None }
-    ensures done { (k ℓ : ℕ) (later : List (PacketOf F)) (m : Machine F) → Represents (alphabet Scalar-as-FiniteField F.FiniteField F.SymbolField) k ℓ later (record { session = session.entry.now; rows = rows.old }) m → m number ≡ shut → NumberDone (alphabet Scalar-as-FiniteField F.FiniteField F.SymbolField) k ℓ later m number (log_packets (alphabet Scalar-as-FiniteField F.FiniteField F.SymbolField) F.LogField.name number log.now) (record { drain = result.drained; output = message.old; written = message.new; solve = result.solved }) (record { session = session.exit.now; rows = rows.new }) }
+    ensures done { (k ℓ : ℕ) (later : List (PacketOf F)) (m : Machine F) → Represents (alphabet F.Scalar.FiniteField F.FiniteField F.SymbolField) k ℓ later (record { session = session.entry.now; rows = rows.old }) m → m number ≡ shut → NumberDone (alphabet F.Scalar.FiniteField F.FiniteField F.SymbolField) k ℓ later m number (log_packets (alphabet F.Scalar.FiniteField F.FiniteField F.SymbolField) F.LogField.name number log.now) (record { drain = result.drained; output = message.old; written = message.new; solve = result.solved }) (record { session = session.exit.now; rows = rows.new }) }
     ensures taken { result.taken ≡ taken result.drained }
-    ensures passed { result.passed ≡ passed (length (log_packets (alphabet Scalar-as-FiniteField F.FiniteField F.SymbolField) F.LogField.name number log.now)) result.drained }
+    ensures passed { result.passed ≡ passed (length (log_packets (alphabet F.Scalar.FiniteField F.FiniteField F.SymbolField) F.LogField.name number log.now)) result.drained }
     ensures few { result.taken + result.passed ≤ feed_limit }
 {
     let Ok(feed) = LogFeed::<F>::new(log, number) else {
@@ -114,7 +114,7 @@ pub(crate) fn numbers_text<F: LogField>(
     requires room { 8 * (head.l + F.SymbolField.m) ≤ length rows.old }
     requires places { length message.old ≡ head.k }
     requires feeds { (b : ℕ) → b < 8 → feed_refusal F.LogField.name b log.now ≡ None }
-    ensures { IfOk result (λ n. NumbersText (alphabet Scalar-as-FiniteField F.FiniteField F.SymbolField) F.LogField.name head.k head.l log.now (string_bytes n.text) n.taken n.passed) }
+    ensures { IfOk result (λ n. NumbersText (alphabet F.Scalar.FiniteField F.FiniteField F.SymbolField) F.LogField.name head.k head.l log.now (string_bytes n.text) n.taken n.passed) }
 {
     let Ok(mut session) = Session::start(head.k, head.l, rows) else {
         unreachable()

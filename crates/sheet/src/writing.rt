@@ -80,7 +80,7 @@ fn solved_line<F: LogField>(
     solved: Solved,
     message: &[F],
 ) -> Result<String, AllocError>
-    ensures { IfOk result (λ t. string_bytes t ≡ solve_line (alphabet Scalar-as-FiniteField F.FiniteField F.SymbolField) F.LogField.name number taken message.now (Ok solved)) }
+    ensures { IfOk result (λ t. string_bytes t ≡ solve_line (alphabet F.Scalar.FiniteField F.FiniteField F.SymbolField) F.LogField.name number taken message.now (Ok solved)) }
 {
     let dimension = solved.dimension;
     let lost = solved.lost;
@@ -101,7 +101,7 @@ pub(crate) fn number_line<F: LogField>(
     drained: Result<Drained, Refusal>,
     solved: Result<Solved, Refusal>,
 ) -> Result<String, AllocError>
-    ensures { IfOk result (λ t. string_bytes t ≡ number_line (alphabet Scalar-as-FiniteField F.FiniteField F.SymbolField) F.LogField.name number message.now drained solved) }
+    ensures { IfOk result (λ t. string_bytes t ≡ number_line (alphabet F.Scalar.FiniteField F.FiniteField F.SymbolField) F.LogField.name number message.now drained solved) }
 {
     match drained {
         Err(refusal) => refused_line(heap, number, 0, 0, refusal),

@@ -22,7 +22,7 @@ pub(crate) fn allowed(k: usize, l: usize, m: usize) -> bool
 
 // Zeroes the rows.
 pub(crate) fn clear<F: SymbolField>(rows: &mut [Packet<F>])
-    ensures { rows.new ≡ zero_rows (alphabet Scalar-as-FiniteField F.FiniteField F.SymbolField) (length rows.old) }
+    ensures { rows.new ≡ zero_rows (alphabet F.Scalar.FiniteField F.FiniteField F.SymbolField) (length rows.old) }
 {
     let zero = Packet::zero();
     for i in 0..rows.len() {
@@ -52,7 +52,7 @@ impl Session {
         rows: &[Packet<F>],
         number: u8,
     ) -> Result<Number, Refusal>
-        ensures { Looked (alphabet Scalar-as-FiniteField F.FiniteField F.SymbolField) self.now rows.now number result }
+        ensures { Looked (alphabet F.Scalar.FiniteField F.FiniteField F.SymbolField) self.now rows.now number result }
     {
         let m = F::m();
         if !allowed(self.k, self.l, m) {
@@ -79,7 +79,7 @@ impl Session {
         rows: &[Packet<F>],
         number: u8,
     ) -> Result<(usize, usize), Refusal>
-        ensures { Reached (alphabet Scalar-as-FiniteField F.FiniteField F.SymbolField) self.now rows.now number result }
+        ensures { Reached (alphabet F.Scalar.FiniteField F.FiniteField F.SymbolField) self.now rows.now number result }
     {
         match self.look(rows, number)? {
             Number::Shut => Err(Refusal::NotOpen),

@@ -20,7 +20,7 @@ impl Session {
         x: u32,
         y: u32,
     ) -> Result<(usize, usize, Packet<F>), Refusal>
-        ensures { Judged (alphabet Scalar-as-FiniteField F.FiniteField F.SymbolField) self.now rows.now number x y result }
+        ensures { Judged (alphabet F.Scalar.FiniteField F.FiniteField F.SymbolField) self.now rows.now number x y result }
     {
         let (taken, dimension) = self.reach(rows, number)?;
         if header_limit::<F>(self.l) <= x {
@@ -53,7 +53,7 @@ impl Session {
         x: u32,
         y: u32,
     ) -> Result<Taken, Refusal>
-        ensures { Took (alphabet Scalar-as-FiniteField F.FiniteField F.SymbolField) self.old rows.old number x y result self.new rows.new }
+        ensures { Took (alphabet F.Scalar.FiniteField F.FiniteField F.SymbolField) self.old rows.old number x y result self.new rows.new }
     {
         let (taken, dimension, packet) = self.judge(rows, number, x, y)?;
         let width = self.l + F::m();

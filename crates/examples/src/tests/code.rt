@@ -1,13 +1,13 @@
 // Encoding and division over octets.
 use super::element;
 use answer::refusal::Refusal;
-use code::division::divide;
-use code::encoding::encode;
 use field::octet::Octet;
 use field::{FiniteField, SymbolField};
 use packet::Packet;
 use std::process::Abort;
 use std::test::Fail;
+use subspace_code::division::divide;
+use subspace_code::encoding::encode;
 
 #[test]
 fn encoding(rt: HostRuntime) -> Result<(), Fail> {

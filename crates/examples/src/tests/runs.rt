@@ -1,6 +1,5 @@
 // Whole runs: a block is sent, mixed, thinned out and joined by foreign packets, and comes back.
 use super::{element, packet};
-use code::encoding::encode;
 use collector::session::Session;
 use feed::Feed;
 use feed::gap::Gap;
@@ -14,6 +13,7 @@ use field::{FiniteField, SymbolField};
 use packet::Packet;
 use std::process::Abort;
 use std::test::Fail;
+use subspace_code::encoding::encode;
 
 // A block of two symbols in six packets, of which one is lost; foreign ones come last, and all are stirred.
 fn comes_back<F: SymbolField>(

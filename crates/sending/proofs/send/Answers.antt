@@ -4,8 +4,8 @@ use Rattle.portal_log.specs.Views.{left_lines}
 use Rattle.portal_log.proofs.Cuts.{length_lines}
 use Rattle.sending.proofs.send.Goals as goal
 
-pub send-by-requires : goal.send-by-requires
-send-by-requires c =
+pub send_by-requires : goal.send_by-requires
+send_by-requires c =
     let sheet = c.args.sheet.now in
     let small : length sheet < 2 ^ 64 = omega arith in
     let few = length_lines sheet in

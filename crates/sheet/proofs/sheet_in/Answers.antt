@@ -1,14 +1,14 @@
 use Rattle.std.proofs.Common.{◌≡◌, sym, ◌∙◌, arith, Fits-lit}
-use mir.Facts.{FitsLt}
+use mir.Facts.{Fits-lt}
 use Rattle.sheet.proofs.Starts.{fits_allowed}
 use Rattle.sheet.proofs.sheet_in.Goals as goal
 
-pub overflow-add-head : goal.overflow-add-head
-overflow-add-head g c =
+pub overflow_add-head : goal.overflow_add-head
+overflow_add-head g c =
     let allowed = fits_allowed c.args.head.k c.args.head.l c.m-m.result (sym c.fits.ensures ∙ c.if-not-fits.false) in
-    FitsLt {n = 100} (omega (arith, allowed, c.m-m.ensures, g.met.F.SymbolField.extension.coordinate_limit)) (Fits-lit tt)
+    Fits-lt {n = 100} (omega (arith, allowed, c.m-m.ensures, g.met.F.SymbolField.extension.coordinate_limit)) (Fits-lit tt)
 
-pub overflow-mul-head : goal.overflow-mul-head
-overflow-mul-head g c =
+pub overflow_mul-head : goal.overflow_mul-head
+overflow_mul-head g c =
     let allowed = fits_allowed c.args.head.k c.args.head.l c.m-m.result (sym c.fits.ensures ∙ c.if-not-fits.false) in
-    FitsLt {n = 1000} (omega (arith, allowed, c.m-m.ensures, g.met.F.SymbolField.extension.coordinate_limit)) (Fits-lit tt)
+    Fits-lt {n = 1000} (omega (arith, allowed, c.m-m.ensures, g.met.F.SymbolField.extension.coordinate_limit)) (Fits-lit tt)

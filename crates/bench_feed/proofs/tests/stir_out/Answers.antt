@@ -5,5 +5,5 @@ use Rattle.bench_feed.proofs.tests.stir_out.Goals as goal
 
 pub returns : goal.returns
 returns g c =
-    let s = c.take-all.new.feed in
-    IfOk-weaker c.take-all.result _ _ (λ v e. let h : g.D.Feed.list s.lower.now ≡ [] = stir_empty _ s.scalar s.last (g.D.Feed.list s.lower.now) e in search rules) c.take-all.ensures.empty
+    let s = c.take_all.new.feed in
+    IfOk-weaker c.take_all.result _ _ (λ v e. let h : g.D.Feed.list s.lower.now ≡ [] = stir_empty _ s.scalar s.last (g.D.Feed.list s.lower.now) e in search rules) c.take_all.ensures.empty

@@ -24,8 +24,8 @@ front g rows d w = subst (Reduced g.R.Scalar.FiniteField.field g.R.Row.rows) (sy
 room_for : (g : given.Over) (rows : List g.row.R.Denot) (d : ℕ) → Window g.R.Scalar.FiniteField.field g.R.Row.rows d (g.R.Row.vectors rows) → d ≤ length rows
 room_for g rows d w = omega (arith, w.within, length_vectors g.met.R.Row.each rows)
 
-pub slice-bounds-remainder-end : goal.slice-bounds-remainder-end
-slice-bounds-remainder-end g c = let h = room_for g c.args.rows.now c.args.dim c.requires.window in search rules
+pub slice_bounds-remainder-end : goal.slice_bounds-remainder-end
+slice_bounds-remainder-end g c = let h = room_for g c.args.rows.now c.args.dim c.requires.window in search rules
 
 pub remainder-rest-requires : goal.remainder-rest-requires
 remainder-rest-requires g c = record {
@@ -34,17 +34,17 @@ remainder-rest-requires g c = record {
   fine = c.requires.fine;
 }
 
-pub returns-in-default : goal.returns-in-default
-returns-in-default g c =
+pub returns-in_default : goal.returns-in_default
+returns-in_default g c =
     let F = g.R.Scalar.FiniteField.field in
     let R = g.R.Row.rows in
     let r = g.R.Row.vector c.remainder-rest.result in
     let left = subst (λ L. Remains F R L (g.R.Row.vector c.args.row) r) (vectors_front g.met.R.Row.each c.args.dim c.args.rows.now) c.remainder-rest.ensures.left in
-    let zero : R.coord r c.leading-p.result ≡ F.zero = sym c.coordinate.ensures ∙ reciprocal_none F c.coordinate.result (sym c.inverse.ensures ∙ c.in-default.is) in
+    let zero : R.coord r c.leading-p.result ≡ F.zero = sym c.coordinate.ensures ∙ reciprocal_none F c.coordinate.result (sym c.inverse.ensures ∙ c.in_default.is) in
     record { valid = c.requires.valid; added = added_none g.met.R.Row.laws c.requires.window left (first_none g.met.R.Row.laws c.leading-p.ensures zero) }
 
-pub slice-bounds-slot-end : goal.slice-bounds-slot-end
-slice-bounds-slot-end g c = let h = room_for g c.args.rows.now c.args.dim c.requires.window in search rules
+pub slice_bounds-slot-end : goal.slice_bounds-slot-end
+slice_bounds-slot-end g c = let h = room_for g c.args.rows.now c.args.dim c.requires.window in search rules
 
 pub slot-at-requires : goal.slot-at-requires
 slot-at-requires g c = record {
@@ -89,8 +89,8 @@ insert-requires g c =
     let out = outside g rows d c.coordinate.result c.in-Some.inverse c.requires.window c.remainder-rest.ensures.left c.leading-p.ensures c.coordinate.ensures (sym c.inverse.ensures ∙ c.in-Some.is) in
     (slot_within g rows d c.leading-p.result c.slot-at.result c.requires.window c.slot-at.ensures, omega (arith, c.requires.room out, c.clear.auto.rows))
 
-pub overflow-add-result : goal.overflow-add-result
-overflow-add-result g c =
+pub overflow_add-result : goal.overflow_add-result
+overflow_add-result g c =
     let rows = c.args.rows.now in
     let d = c.args.dim in
     let out = outside g rows d c.coordinate.result c.in-Some.inverse c.requires.window c.remainder-rest.ensures.left c.leading-p.ensures c.coordinate.ensures (sym c.inverse.ensures ∙ c.in-Some.is) in

@@ -6,14 +6,14 @@ pub loop-i-init : goal.loop-i-init
 loop-i-init g c j h l = absurd (let b : ⊥ = omega arith in b)
 
 pub loop-i-preserved : goal.loop-i-preserved
-loop-i-preserved g c = below_more _ _ c.loop-i.invariant (λ l. sym c.coordinate.ensures ∙ c.is-zero.ensures.0 c.if-not-is-zero.false)
+loop-i-preserved g c = below_more _ _ c.loop-i.invariant (λ l. sym c.coordinate.ensures ∙ c.is_zero.ensures.0 c.if-not-is_zero.false)
 
-pub returns-then-not-is-zero : goal.returns-then-not-is-zero
-returns-then-not-is-zero g c = record {
+pub returns-then-not-is_zero : goal.returns-then-not-is_zero
+returns-then-not-is_zero g c = record {
   low = c.loop-i.auto.i;
   high = omega (arith, c.width-width.ensures);
   before = λ j l h. c.loop-i.invariant j h l;
-  some = λ h z. both_ways _ c.if-not-is-zero.true (c.is-zero.ensures.1 (c.coordinate.ensures ∙ z));
+  some = λ h z. both_ways _ c.if-not-is_zero.true (c.is_zero.ensures.1 (c.coordinate.ensures ∙ z));
 }
 
 pub returns : goal.returns

@@ -23,8 +23,8 @@ pub less-rest-requires : goal.less-rest-requires
 less-rest-requires g c =
     (c.loop-pivot.invariant.0, each_read g.R.Row.valid c.args.rows.now c.loop-pivot.pivot-index _ c.requires.valid c.loop-pivot-test.true c.pivot-item.is)
 
-pub overflow-add-from : goal.overflow-add-from
-overflow-add-from g c =
+pub overflow_add-from : goal.overflow_add-from
+overflow_add-from g c =
     let F = g.R.Scalar.FiniteField.field in
     let R = g.R.Row.rows in
     let each = g.met.R.Row.each in

@@ -1,11 +1,11 @@
-use Rattle.std.proofs.Common.{◌≡◌, ◌<◌, ◌≤◌, length, sym, refl, ap, ◌∙◌, arith}
+use Rattle.std.proofs.Common.{◌<◌, length, sym, refl, ap, ◌∙◌, arith}
 use lib.ListN.{length-map}
-use Rattle.field.specs.Alphabet.{alphabet}
+use Rattle.field.proofs.Members.{alphabet}
 use Rattle.linearized.specs.Polynomials.{at}
 use Rattle.linearized.proofs.Algebra.{neg_zero}
-use Rattle.code.specs.Holding.{held_code}
+use Rattle.subspace_code.specs.Holding.{held_code}
 use Rattle.collector.specs.Interpolation.{polynomial}
-use Rattle.code.proofs.Slots.{at_past_slots}
+use Rattle.subspace_code.proofs.Slots.{at_past_slots}
 use Rattle.collector.proofs.HeldPolynomials.{read_next, write_next, written_all}
 use Rattle.collector.proofs.decoding.negate.Goals as goal
 
@@ -14,7 +14,7 @@ loop-i-init g c = refl
 
 pub loop-i-preserved : goal.loop-i-preserved
 loop-i-preserved g c =
-    let A = alphabet g.Scalar.FiniteField g.F.FiniteField g.F.SymbolField in
+    let A = alphabet g.F.Scalar.FiniteField g.F.FiniteField g.F.SymbolField in
     let G = g.F.FiniteField.field in
     let f = polynomial A c.args.f.now in
     let i = c.loop-i.i in
@@ -24,7 +24,7 @@ loop-i-preserved g c =
 
 pub returns : goal.returns
 returns g c =
-    let A = alphabet g.Scalar.FiniteField g.F.FiniteField g.F.SymbolField in
+    let A = alphabet g.F.Scalar.FiniteField g.F.FiniteField g.F.SymbolField in
     let G = g.F.FiniteField.field in
     let f = polynomial A c.args.f.now in
     λ n. ap (λ p. at G p n) c.loop-i.invariant

@@ -1,32 +1,32 @@
-use Rattle.std.proofs.Common.{◌≡◌, ◌≤◌, length, ap, ◌∙◌, arith}
+use Rattle.std.proofs.Common.{◌≤◌, arith}
 use lib.ListN.{length-map}
-use Rattle.field.specs.Alphabet.{alphabet}
+use Rattle.field.proofs.Members.{alphabet}
 use Rattle.linearized.specs.Polynomials.{counted}
 use Rattle.linearized.proofs.Counts.{counted_length}
-use Rattle.code.proofs.Quotients.{refused_zero}
-use Rattle.code.specs.Holding.{held_code}
+use Rattle.subspace_code.proofs.Quotients.{refused_zero}
+use Rattle.subspace_code.specs.Holding.{held_code}
 use Rattle.collector.specs.Interpolation.{members, polynomial}
 use Rattle.collector.proofs.decoding.quotient.Goals as goal
 
 pub returns-in-Ok : goal.returns-in-Ok
 returns-in-Ok g c =
-    let A = alphabet g.Scalar.FiniteField g.F.FiniteField g.F.SymbolField in
+    let A = alphabet g.F.Scalar.FiniteField g.F.FiniteField g.F.SymbolField in
     let divided = c.in-Ok.ensures.answer in (
-      c.divide-held.auto.quotient,
+      c.divide_held.auto.quotient,
       record {
         Qx = polynomial A c.interpolate-pair.result.x;
         Qy = polynomial A c.interpolate-pair.result.y;
         interpolates = c.interpolate-pair.ensures;
         D = polynomial A c.negate.new.f;
         negative = c.negate.ensures;
-        R = polynomial A c.divide-held.new.remainder;
+        R = polynomial A c.divide_held.new.remainder;
         divided = divided.1;
       },
     )
 
 pub returns-in-Err : goal.returns-in-Err
 returns-in-Err g c =
-    let A = alphabet g.Scalar.FiniteField g.F.FiniteField g.F.SymbolField in
+    let A = alphabet g.F.Scalar.FiniteField g.F.FiniteField g.F.SymbolField in
     let G = g.F.FiniteField.field in
     let D = polynomial A c.negate.new.f in
     let Qy = polynomial A c.interpolate-pair.result.y in

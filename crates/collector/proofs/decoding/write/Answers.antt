@@ -1,11 +1,11 @@
 use Rattle.std.proofs.Common.{◌≡◌, ◌++◌, length, drop, set, sym, refl, ap, ◌∙◌, ap₂, arith}
 use lib.ListN.{length-map}
 use Rattle.std.proofs.lemmas.List.FromFn.{fill_by_all}
-use Rattle.field.specs.Alphabet.{alphabet}
+use Rattle.field.proofs.Members.{alphabet}
 use Rattle.linearized.specs.Polynomials.{at}
-use Rattle.code.specs.Holding.{held_code}
+use Rattle.subspace_code.specs.Holding.{held_code}
 use Rattle.collector.specs.Interpolation.{polynomial, written}
-use Rattle.code.proofs.Sums.{front_more}
+use Rattle.subspace_code.proofs.Sums.{front_more}
 use Rattle.collector.proofs.HeldPolynomials.{polynomial_at}
 use Rattle.collector.proofs.decoding.write.Goals as goal
 
@@ -14,7 +14,7 @@ loop-i-init g c = refl
 
 pub loop-i-preserved : goal.loop-i-preserved
 loop-i-preserved g c =
-    let A = alphabet g.Scalar.FiniteField g.F.FiniteField g.F.SymbolField in
+    let A = alphabet g.F.Scalar.FiniteField g.F.FiniteField g.F.SymbolField in
     let G = g.F.FiniteField.field in
     let i = c.loop-i.i in
     ap₂ (λ xs x. set xs i x) c.loop-i.invariant (c.load.ensures ∙ sym (polynomial_at A c.args.codes.now i (omega arith)))
@@ -22,7 +22,7 @@ loop-i-preserved g c =
 
 pub returns : goal.returns
 returns g c =
-    let A = alphabet g.Scalar.FiniteField g.F.FiniteField g.F.SymbolField in
+    let A = alphabet g.F.Scalar.FiniteField g.F.FiniteField g.F.SymbolField in
     let G = g.F.FiniteField.field in
     let codes = c.args.codes.now in
     let all : c.loop-i.i ≡ length codes = omega arith in

@@ -1,6 +1,7 @@
 use Rattle.std.proofs.Common.{ℕ, ◌≤◌, List, length, subst, arith}
 use Rattle.std.proofs.lemmas.List.{get_or_read}
-use Rattle.field.specs.Alphabet.{alphabet, Lawful}
+use Rattle.field.specs.Alphabet.{Lawful}
+use Rattle.field.proofs.Members.{alphabet}
 use Rattle.packet.specs.declared.Packet.{Packet}
 use Rattle.packet.specs.Packets.{packet_zero}
 use Rattle.linearized.specs.Interpolation.{State, Interpolating, Next}
@@ -9,8 +10,8 @@ use Rattle.collector.specs.Interpolation.{state_of}
 use Rattle.collector.proofs.interpolation.interpolate.Given as given
 use Rattle.collector.proofs.interpolation.interpolate.Goals as goal
 
-laws : (g : given.Over) → Lawful (alphabet g.Scalar.FiniteField g.F.FiniteField g.F.SymbolField)
-laws g = record { scalar_codes = g.met.Scalar.FiniteField.codes; codes = g.met.F.FiniteField.codes; extension = g.met.F.SymbolField.extension }
+laws : (g : given.Over) → Lawful (alphabet g.F.Scalar.FiniteField g.F.FiniteField g.F.SymbolField)
+laws g = record { scalar_codes = g.met.F.Scalar.FiniteField.codes; codes = g.met.F.FiniteField.codes; extension = g.met.F.SymbolField.extension }
 
 pub loop-packet-init : goal.loop-packet-init
 loop-packet-init g c = interpolating_start (laws g) c.args.k c.args.packets.now _ c.start-state.ensures
@@ -26,7 +27,7 @@ next-requires g c =
 
 pub loop-packet-preserved : goal.loop-packet-preserved
 loop-packet-preserved g c =
-    let A = alphabet g.Scalar.FiniteField g.F.FiniteField g.F.SymbolField in
+    let A = alphabet g.F.Scalar.FiniteField g.F.FiniteField g.F.SymbolField in
     let L = c.args.packets.now in
     let i = c.loop-packet.packet-index in
     let read = get_or_read L i c.packet-item.result c.loop-packet-test.true c.packet-item.is (packet_zero A) in
@@ -35,8 +36,8 @@ loop-packet-preserved g c =
 
 -- after the last packet both pairs vanish on all
 all_seen : (g : given.Over) (k : ℕ) (L : List (Packet g.row.F.Denot)) (i : ℕ) → i ≤ length L → length L ≤ i → (s : State g.row.F.Denot) →
-    Interpolating (alphabet g.Scalar.FiniteField g.F.FiniteField g.F.SymbolField) k L i s → Interpolating (alphabet g.Scalar.FiniteField g.F.FiniteField g.F.SymbolField) k L (length L) s
-all_seen g k L i l m s = subst (λ n. Interpolating (alphabet g.Scalar.FiniteField g.F.FiniteField g.F.SymbolField) k L n s) (omega arith)
+    Interpolating (alphabet g.F.Scalar.FiniteField g.F.FiniteField g.F.SymbolField) k L i s → Interpolating (alphabet g.F.Scalar.FiniteField g.F.FiniteField g.F.SymbolField) k L (length L) s
+all_seen g k L i l m s = subst (λ n. Interpolating (alphabet g.F.Scalar.FiniteField g.F.FiniteField g.F.SymbolField) k L n s) (omega arith)
 
 pub returns-then-state : goal.returns-then-state
 returns-then-state g c =

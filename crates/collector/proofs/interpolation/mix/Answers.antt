@@ -1,8 +1,8 @@
 use Rattle.std.proofs.Common.{◌≡◌, ◌<◌, length, sym, refl, ap, ◌∙◌, ap₂, arith}
 use lib.ListN.{length-map}
-use Rattle.field.specs.Alphabet.{alphabet}
+use Rattle.field.proofs.Members.{alphabet}
 use Rattle.linearized.specs.Polynomials.{at}
-use Rattle.code.specs.Holding.{held_code}
+use Rattle.subspace_code.specs.Holding.{held_code}
 use Rattle.collector.specs.Interpolation.{polynomial, written, mixed}
 use Rattle.collector.proofs.HeldPolynomials.{polynomial_at, read_next, write_next}
 use Rattle.collector.proofs.interpolation.mix.Goals as goal
@@ -12,7 +12,7 @@ loop-i-init g c = refl
 
 pub loop-i-preserved : goal.loop-i-preserved
 loop-i-preserved g c =
-    let A = alphabet g.Scalar.FiniteField g.F.FiniteField g.F.SymbolField in
+    let A = alphabet g.F.Scalar.FiniteField g.F.FiniteField g.F.SymbolField in
     let G = g.F.FiniteField.field in
     let f = polynomial A c.args.f.now in
     let h = mixed A c.args.a f c.args.b (polynomial A c.args.g.now) in
@@ -25,7 +25,7 @@ loop-i-preserved g c =
 
 pub returns : goal.returns
 returns g c =
-    let A = alphabet g.Scalar.FiniteField g.F.FiniteField g.F.SymbolField in
+    let A = alphabet g.F.Scalar.FiniteField g.F.FiniteField g.F.SymbolField in
     let f = polynomial A c.args.f.now in
     let all : c.loop-i.i ≡ c.args.places = omega arith in
     c.loop-i.invariant ∙ ap (λ n. written (mixed A c.args.a f c.args.b (polynomial A c.args.g.now)) n f) all

@@ -1,9 +1,9 @@
 use Rattle.std.proofs.Common.{◌≡◌, ◌<◌, length, sym, refl, ap, ◌∙◌, ap₂, add-one, arith}
 use lib.ListN.{length-map}
-use Rattle.field.specs.Alphabet.{alphabet}
+use Rattle.field.proofs.Members.{alphabet}
 use Rattle.linearized.specs.Polynomials.{at}
 use Rattle.linearized.specs.Coefficients.{before}
-use Rattle.code.specs.Holding.{held_code}
+use Rattle.subspace_code.specs.Holding.{held_code}
 use Rattle.collector.specs.Interpolation.{polynomial, written, shifted}
 use Rattle.collector.proofs.HeldPolynomials.{read_next, write_next}
 use Rattle.collector.proofs.interpolation.shift.Goals as goal
@@ -13,7 +13,7 @@ loop-i-init g c = (refl, c.zero-before.ensures)
 
 pub loop-i-preserved : goal.loop-i-preserved
 loop-i-preserved g c =
-    let A = alphabet g.Scalar.FiniteField g.F.FiniteField g.F.SymbolField in
+    let A = alphabet g.F.Scalar.FiniteField g.F.FiniteField g.F.SymbolField in
     let G = g.F.FiniteField.field in
     let raise = g.F.SymbolField.frobenius in
     let f = polynomial A c.args.f.now in
@@ -28,7 +28,7 @@ loop-i-preserved g c =
 
 pub returns : goal.returns
 returns g c =
-    let A = alphabet g.Scalar.FiniteField g.F.FiniteField g.F.SymbolField in
+    let A = alphabet g.F.Scalar.FiniteField g.F.FiniteField g.F.SymbolField in
     let f = polynomial A c.args.f.now in
     let all : c.loop-i.i ≡ c.args.places = omega arith in
     c.loop-i.invariant.0 ∙ ap (λ n. written (shifted A c.args.c f) n f) all

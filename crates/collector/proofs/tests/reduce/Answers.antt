@@ -1,5 +1,6 @@
 use Rattle.std.proofs.Common.{◌+◌, ◌≤◌, length, sym, subst, arith}
-use Rattle.field.specs.Alphabet.{Alphabet, alphabet, Lawful}
+use Rattle.field.specs.Alphabet.{Alphabet, Lawful}
+use Rattle.field.proofs.Members.{alphabet}
 use Rattle.packet.specs.Packets.{packet_rows}
 use Rattle.packet.proofs.Packets.{packet_laws}
 use Rattle.collector.specs.Windows.{Window}
@@ -8,15 +9,15 @@ use Rattle.collector.proofs.tests.reduce.Given as given
 use Rattle.collector.proofs.tests.reduce.Goals as goal
 
 A : (g : given.Over) → Alphabet g.row.F-Scalar.Denot g.row.F.Denot
-A g = alphabet g.Scalar.FiniteField g.F.FiniteField g.F.SymbolField
+A g = alphabet g.F.Scalar.FiniteField g.F.FiniteField g.F.SymbolField
 
 laws : (g : given.Over) → Lawful (A g)
 unfolding A
-laws g = record { scalar_codes = g.met.Scalar.FiniteField.codes; codes = g.met.F.FiniteField.codes; extension = g.met.F.SymbolField.extension }
+laws g = record { scalar_codes = g.met.F.Scalar.FiniteField.codes; codes = g.met.F.FiniteField.codes; extension = g.met.F.SymbolField.extension }
 
-pub add-row-now-requires : goal.add-row-now-requires
+pub add_row-now-requires : goal.add_row-now-requires
 unfolding A
-add-row-now-requires g c = record {
+add_row-now-requires g c = record {
   window = c.loop-packet.invariant.0;
   valid = packets_valid c.loop-packet.rows;
   fine = tt;
@@ -31,4 +32,4 @@ loop-packet-init g c = (
 )
 
 pub loop-packet-preserved : goal.loop-packet-preserved
-loop-packet-preserved g c = (c.add-row-now.ensures.added.window, omega (arith, c.loop-packet.invariant.1, c.add-row-now.auto.rows))
+loop-packet-preserved g c = (c.add_row-now.ensures.added.window, omega (arith, c.loop-packet.invariant.1, c.add_row-now.auto.rows))

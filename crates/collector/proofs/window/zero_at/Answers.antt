@@ -17,10 +17,10 @@ loop-row-preserved g c =
     let k = c.loop-row.row-index in
     let read = vectors_read g.met.R.Row.each rows k c.row-item.result R.none c.loop-row-test.true c.row-item.is in
     each_more (λ v. R.coord v c.args.p ≡ g.R.Scalar.FiniteField.field.zero) (g.R.Row.vectors rows) k R.none (omega (arith, length_vectors g.met.R.Row.each rows)) c.loop-row.invariant
-    (ap (λ v. R.coord v c.args.p) (sym read) ∙ sym c.coordinate.ensures ∙ c.is-zero.ensures.0 c.if-not-is-zero.false)
+    (ap (λ v. R.coord v c.args.p) (sym read) ∙ sym c.coordinate.ensures ∙ c.is_zero.ensures.0 c.if-not-is_zero.false)
 
-pub returns-then-not-is-zero : goal.returns-then-not-is-zero
-returns-then-not-is-zero g c =
+pub returns-then-not-is_zero : goal.returns-then-not-is_zero
+returns-then-not-is_zero g c =
     let R = g.R.Row.rows in
     let rows = c.args.rows.now in
     let k = c.loop-row.row-index in
@@ -28,7 +28,7 @@ returns-then-not-is-zero g c =
       λ e. absurd (clash e),
       λ all.
           let z = each_at (λ v. R.coord v c.args.p ≡ g.R.Scalar.FiniteField.field.zero) R.none (g.R.Row.vectors rows) all k (omega (arith, length_vectors g.met.R.Row.each rows)) in
-          absurd (both_ways _ c.if-not-is-zero.true (c.is-zero.ensures.1 (c.coordinate.ensures ∙ ap (λ v. R.coord v c.args.p) read ∙ z))),
+          absurd (both_ways _ c.if-not-is_zero.true (c.is_zero.ensures.1 (c.coordinate.ensures ∙ ap (λ v. R.coord v c.args.p) read ∙ z))),
     )
 
 pub returns : goal.returns

@@ -15,8 +15,8 @@ loop-i-init c = (c.requires.codes.2, refl, product_none (iterate (times_x c.args
 pub loop-i-preserved : goal.loop-i-preserved
 loop-i-preserved c =
     let f : ℕ → ℕ = times_x c.args.n c.args.tail in (
-      c.times_x_power.ensures.within,
-      c.times_x_power.ensures.value ∙ ap f c.loop-i.invariant.1 ∙ iterate_step f c.loop-i.i c.args.b,
+      c.times_x-power.ensures.within,
+      c.times_x-power.ensures.value ∙ ap f c.loop-i.invariant.1 ∙ iterate_step f c.loop-i.i c.args.b,
       elim c.if-a-i-eq1.branch [
         | then-a-i-eq1 w ↦ w.sum-is ∙ ap₂ bit_xor c.loop-i.invariant.2 c.loop-i.invariant.1 ∙ product_taken (iterate f) c.args.a c.args.b c.loop-i.i w.if-a-i-eq1.true
         | else-a-i-eq1 w ↦ w.sum-is ∙ c.loop-i.invariant.2 ∙ product_left (iterate f) c.args.a c.args.b c.loop-i.i w.if-a-i-eq1.false

@@ -1,6 +1,6 @@
 -- What is counted so far and what is still to come make the whole length.
 use Rattle.std.proofs.Common.{◌≡◌, ℕ, ◌+◌, length}
-use Rattle.field.specs.Alphabet.{alphabet}
+use Rattle.field.proofs.Members.{alphabet}
 use Rattle.portal_log.specs.declared.reader.Reader.{Reader}
 use Rattle.portal_log.specs.Readers.{left_entries}
 use Rattle.log_feed.specs.Numbered.{numbered}
@@ -8,7 +8,7 @@ use Rattle.log_feed.proofs.LogFeedFeed.len.Given as goal
 
 abbrev pub count : (g : goal.Over) → ℕ → Reader g.row.F.Denot → ℕ
 count g n r =
-    let A = alphabet g.Scalar.FiniteField g.F.FiniteField g.F.SymbolField in
+    let A = alphabet g.F.Scalar.FiniteField g.F.FiniteField g.F.SymbolField in
     length (numbered A g.F.LogField.name n (left_entries A g.F.LogField.name r))
 
 abbrev pub invariant-loop-line : goal.invariant-loop-line

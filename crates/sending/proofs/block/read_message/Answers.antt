@@ -1,6 +1,7 @@
-use Rattle.std.proofs.Common.{◌≡◌, ℕ, List, [], ◌∷◌, ◌++◌, vec_items, sym, refl, ap, ◌∙◌, ap₂}
+use Rattle.std.proofs.Common.{[], ◌∷◌, vec_items, sym, refl, ap, ◌∙◌}
 use Rattle.std.proofs.lemmas.Slice.{pushed}
-use Rattle.field.specs.Alphabet.{Alphabet, alphabet}
+use Rattle.field.specs.Alphabet.{Alphabet}
+use Rattle.field.proofs.Members.{alphabet}
 use Rattle.portal_log.specs.Views.{left_parts}
 use Rattle.sending.specs.Blocks.{message_of}
 use Rattle.sending.proofs.Answered.{after, after_none, answers_memory}
@@ -9,11 +10,11 @@ use Rattle.sending.proofs.block.read_message.Given as given
 use Rattle.sending.proofs.block.read_message.Goals as goal
 
 abbrev A : (g : given.Over) → Alphabet g.row.F-Scalar.Denot g.row.F.Denot
-A g = alphabet g.Scalar.FiniteField g.F.FiniteField g.F.SymbolField
+A g = alphabet g.F.Scalar.FiniteField g.F.FiniteField g.F.SymbolField
 
 pub loop-code-init : goal.loop-code-init
 loop-code-init g c =
-    let whole = message_of (A g) g.F.LogField.name (left_parts c.into-iter-code-iterator.result) in
+    let whole = message_of (A g) g.F.LogField.name (left_parts c.into_iter-code-iterator.result) in
     (tt, tt, ap (λ xs. after xs whole) c.new-message.ensures.items ∙ after_none whole)
 
 pub loop-code-preserved : goal.loop-code-preserved
@@ -22,19 +23,19 @@ loop-code-preserved g c =
     let name = g.F.LogField.name in
     let left = left_parts c.loop-code.code-iterator in
     let more = left_parts c.next.new.self in
-    let longer = pushed (c.in-Some-read-symbol.symbol ∷ []) refl c.in-ok-push.was c.push.ensures.items in
-    let step = message_more (A g) name xs left c.in-Some.code.now more c.in-Some-read-symbol.symbol c.in-Some.ensures.steps (sym c.in-Some-read-symbol.ensures) in
+    let longer = pushed (c.in-Some-read_symbol.symbol ∷ []) refl c.in_ok-push.was c.push.ensures.items in
+    let step = message_more (A g) name xs left c.in-Some.code.now more c.in-Some-read_symbol.symbol c.in-Some.ensures.steps (sym c.in-Some-read_symbol.ensures) in
     (tt, tt, ap (λ ys. after ys (message_of (A g) name more)) longer ∙ step ∙ c.loop-code.invariant.2)
 
-pub returns-in-default : goal.returns-in-default
-returns-in-default g c =
-    let stops = message_stops (A g) g.F.LogField.name (vec_items c.loop-code.message) (left_parts c.loop-code.code-iterator) c.in-Some.code.now (left_parts c.next.new.self) c.in-Some.ensures.steps (sym c.in-default.ensures) in
-    ap (λ s. message_of (A g) g.F.LogField.name (left_parts s)) (sym c.into-iter-code-iterator.ensures.into-iter-gives) ∙ sym c.loop-code.invariant.2 ∙ stops
+pub returns-in_default : goal.returns-in_default
+returns-in_default g c =
+    let stops = message_stops (A g) g.F.LogField.name (vec_items c.loop-code.message) (left_parts c.loop-code.code-iterator) c.in-Some.code.now (left_parts c.next.new.self) c.in-Some.ensures.steps (sym c.in_default.ensures) in
+    ap (λ s. message_of (A g) g.F.LogField.name (left_parts s)) (sym c.into_iter-code-iterator.ensures.into_iter_gives) ∙ sym c.loop-code.invariant.2 ∙ stops
 
-pub returns-in-err-push : goal.returns-in-err-push
-returns-in-err-push g c = answers_memory vec_items c.from-residual.result _ c.from-residual.ensures.1
+pub returns-in_err-push : goal.returns-in_err-push
+returns-in_err-push g c = answers_memory vec_items c.from_residual.result _ c.from_residual.ensures.1
 
 pub returns : goal.returns
 returns g c =
     let ends = message_ends (A g) g.F.LogField.name (vec_items c.loop-code.message) (left_parts c.loop-code.code-iterator) c.in-None.ensures.steps.0 in
-    ap (λ s. message_of (A g) g.F.LogField.name (left_parts s)) (sym c.into-iter-code-iterator.ensures.into-iter-gives) ∙ sym c.loop-code.invariant.2 ∙ ends
+    ap (λ s. message_of (A g) g.F.LogField.name (left_parts s)) (sym c.into_iter-code-iterator.ensures.into_iter_gives) ∙ sym c.loop-code.invariant.2 ∙ ends

@@ -1,15 +1,15 @@
-use Rattle.std.proofs.Common.{◌≡◌, ℕ, ◌+◌, List, [], ◌∷◌, ◌++◌, length, take, sym, refl, ap, ◌∙◌}
+use Rattle.std.proofs.Common.{◌≡◌, ℕ, ◌+◌, List, [], ◌∷◌, ◌++◌, take, sym, ap, ◌∙◌}
 use Rattle.std.specs.List.{flat_map}
 use Rattle.std.proofs.lemmas.List.{take_more, take_all, flat_map_more}
 use Rattle.std.proofs.lemmas.Slice.{pushed}
-use Rattle.field.specs.Alphabet.{alphabet}
+use Rattle.field.proofs.Members.{alphabet}
 use Rattle.packet.specs.declared.Packet.{Packet}
 use Rattle.sending.specs.Blocks.{packet_line}
 use Rattle.sending.proofs.writing.packet_lines.Given as given
 use Rattle.sending.proofs.writing.packet_lines.Goals as goal
 
 abbrev line_of : (g : given.Over) → ℕ → Packet g.row.F.Denot → List ℕ
-line_of g = packet_line (alphabet g.Scalar.FiniteField g.F.FiniteField g.F.SymbolField) g.F.LogField.name
+line_of g = packet_line (alphabet g.F.Scalar.FiniteField g.F.FiniteField g.F.SymbolField) g.F.LogField.name
 
 pub loop-packet-preserved : goal.loop-packet-preserved
 loop-packet-preserved g c =
@@ -17,9 +17,9 @@ loop-packet-preserved g c =
     let packets = c.args.packets.now in
     let i = c.loop-packet.packet-index in
     let item = c.packet-item.result in
-    let line = c.as-str.ensures.value ∙ c.in-ok-line.ensures in
+    let line = c.as_str.ensures.value ∙ c.in_ok-line.ensures in
     let taken : take (i + 1) packets ≡ take i packets ++ item ∷ [] = take_more packets i item c.loop-packet-test.true ∙ ap (λ p. take i packets ++ p ∷ []) (sym c.packet-item.is) in
-    pushed c.as-str.result.now c.loop-packet.invariant c.in-ok-push-str.was c.push-str.ensures.bytes
+    pushed c.as_str.result.now c.loop-packet.invariant c.in_ok-push_str.was c.push_str.ensures.bytes
     ∙ ap (λ t. flat_map f (take i packets) ++ t) line ∙ flat_map_more f [] (take i packets) item ∙ ap (flat_map f) (sym taken)
 
 pub returns : goal.returns

@@ -1,6 +1,6 @@
 use Rattle.std.proofs.Common.{◌≡◌, ℕ, ◌≤◌, List, length, ap, ◌∙◌, arith, Fits-lit}
-use mir.Facts.{FitsLt}
-use Rattle.field.specs.Alphabet.{alphabet}
+use mir.Facts.{Fits-lt}
+use Rattle.field.proofs.Members.{alphabet}
 use Rattle.portal_log.specs.declared.reader.Reader.{Reader}
 use Rattle.portal_log.specs.declared.text.Lines.{Lines}
 use Rattle.portal_log.specs.Entries.{log_limit}
@@ -14,15 +14,15 @@ use Rattle.sheet.proofs.counting.count_lines.Goals as goal
 -- a short log has few lines
 few : (g : given.Over) (r : Reader g.row.F.Denot) (l : Lines) (log : List ℕ) → r.lines ≡ l → l.text.now ≡ log → length log ≤ log_limit → length (entries g r) ≤ log_limit
 few g r l log e f h =
-    let A = alphabet g.Scalar.FiniteField g.F.FiniteField g.F.SymbolField in
+    let A = alphabet g.F.Scalar.FiniteField g.F.FiniteField g.F.SymbolField in
     omega (arith, entries_length A g.F.LogField.name r, ap (λ (l : Lines). length l.text.now) e, ap length f)
 
-pub overflow-add-erased : goal.overflow-add-erased
-overflow-add-erased g c =
-    let start = ap (λ r. erased (entries g r)) c.into-iter-line-iterator.ensures.into-iter-gives in
-    FitsLt {n = 65538} (omega (arith, c.loop-line.invariant.2, start, erased_few (entries g c.of-reader.result), few g c.of-reader.result c.open.result.1 c.args.log.now c.of-reader.ensures c.open.ensures.text c.requires)) (Fits-lit tt)
+pub overflow_add-erased : goal.overflow_add-erased
+overflow_add-erased g c =
+    let start = ap (λ r. erased (entries g r)) c.into_iter-line-iterator.ensures.into_iter_gives in
+    Fits-lt {n = 65538} (omega (arith, c.loop-line.invariant.2, start, erased_few (entries g c.of-reader.result), few g c.of-reader.result c.open.result.1 c.args.log.now c.of-reader.ensures c.open.ensures.text c.requires)) (Fits-lit tt)
 
-pub overflow-add-unreadable : goal.overflow-add-unreadable
-overflow-add-unreadable g c =
-    let start = ap (λ r. unreadable (entries g r)) c.into-iter-line-iterator.ensures.into-iter-gives in
-    FitsLt {n = 65538} (omega (arith, c.loop-line.invariant.3, start, unreadable_few (entries g c.of-reader.result), few g c.of-reader.result c.open.result.1 c.args.log.now c.of-reader.ensures c.open.ensures.text c.requires)) (Fits-lit tt)
+pub overflow_add-unreadable : goal.overflow_add-unreadable
+overflow_add-unreadable g c =
+    let start = ap (λ r. unreadable (entries g r)) c.into_iter-line-iterator.ensures.into_iter_gives in
+    Fits-lt {n = 65538} (omega (arith, c.loop-line.invariant.3, start, unreadable_few (entries g c.of-reader.result), few g c.of-reader.result c.open.result.1 c.args.log.now c.of-reader.ensures c.open.ensures.text c.requires)) (Fits-lit tt)

@@ -1,6 +1,6 @@
 -- What is counted so far and what is still to come make the whole counts.
 use Rattle.std.proofs.Common.{◌≡◌, ◌+◌, List}
-use Rattle.field.specs.Alphabet.{alphabet}
+use Rattle.field.proofs.Members.{alphabet}
 use Rattle.portal_log.specs.declared.reader.Reader.{Reader}
 use Rattle.portal_log.specs.Entries.{Entry}
 use Rattle.portal_log.specs.Readers.{left_entries}
@@ -8,7 +8,7 @@ use Rattle.sheet.specs.Sheets.{erased, unreadable}
 use Rattle.sheet.proofs.counting.count_lines.Given as goal
 
 abbrev pub entries : (g : goal.Over) → Reader g.row.F.Denot → List Entry
-entries g r = left_entries (alphabet g.Scalar.FiniteField g.F.FiniteField g.F.SymbolField) g.F.LogField.name r
+entries g r = left_entries (alphabet g.F.Scalar.FiniteField g.F.FiniteField g.F.SymbolField) g.F.LogField.name r
 
 abbrev pub invariant-loop-line : goal.invariant-loop-line
 invariant-loop-line g l =

@@ -1,6 +1,7 @@
 use Rattle.std.proofs.Common.{◌≡◌, ℕ, ◌+◌, ◌<◌, ◌≤◌, List, [], ◌++◌, length, string_bytes, sym, refl, ap, ◌∙◌, subst, arith}
 use Rattle.std.proofs.lemmas.Slice.{pushed}
-use Rattle.field.specs.Alphabet.{Alphabet, alphabet}
+use Rattle.field.specs.Alphabet.{Alphabet}
+use Rattle.field.proofs.Members.{alphabet}
 use Rattle.collector.specs.Runs.{State}
 use Rattle.sheet.specs.Outcomes.{Outcome}
 use Rattle.sheet.specs.Sheets.{number_line, NumbersText}
@@ -10,11 +11,11 @@ use Rattle.sheet.proofs.numbers.numbers_text.Given as given
 use Rattle.sheet.proofs.numbers.numbers_text.Goals as goal
 
 A : (g : given.Over) → Alphabet g.row.F-Scalar.Denot g.row.F.Denot
-A g = alphabet g.Scalar.FiniteField g.F.FiniteField g.F.SymbolField
+A g = alphabet g.F.Scalar.FiniteField g.F.FiniteField g.F.SymbolField
 
 pub unreachable-requires : goal.unreachable-requires
 unfolding A
-unreachable-requires g c = start_not_refused (A g) c.args.head.k c.args.head.l c.args.rows.now c.in-default.field-0 c.requires.fits c.requires.room c.in-default.ensures.started.0
+unreachable-requires g c = start_not_refused (A g) c.args.head.k c.args.head.l c.args.rows.now c.in_default.field-0 c.requires.fits c.requires.room c.in_default.ensures.started.0
 
 pub loop-number-init : goal.loop-number-init
 unfolding A
@@ -24,9 +25,9 @@ loop-number-init g c =
     subst (λ t. Progress (A g) g.F.LogField.name s.k s.l c.args.log.now 0 begun t 0 0) (sym c.new-text.ensures.bytes)
     (progress_start (A g) g.F.LogField.name s.k s.l c.args.log.now _ begun (c.in-Ok.ensures.faithful s refl [] tt))
 
-pub collect-number-outcome-requires : goal.collect-number-outcome-requires
+pub collect_number-outcome-requires : goal.collect_number-outcome-requires
 unfolding A
-collect-number-outcome-requires g c =
+collect_number-outcome-requires g c =
     let s = c.in-Ok.session in
     record {
       below = c.loop-number-test.true;
@@ -41,11 +42,11 @@ loop-number-preserved g c =
     let name = g.F.LogField.name in
     let p = c.loop-number.invariant in
     let b = c.loop-number.number in
-    let got = c.collect-number-outcome in
+    let got = c.collect_number-outcome in
     let o : Outcome g.row.F.Denot = record { drain = got.result.drained; output = c.loop-number.message; written = got.new.message; solve = got.result.solved } in
-    let line = c.as-str.ensures.value ∙ c.in-ok-line.ensures in
+    let line = c.as_str.ensures.value ∙ c.in_ok-line.ensures in
     let long : length c.loop-number.message ≡ s.k = c.loop-number.auto.message ∙ c.requires.places ∙ sym c.in-Ok.ensures.started.1 in
-    let longer = pushed c.as-str.result.now refl c.in-ok-push-str.was c.push-str.ensures.bytes ∙ ap (λ (t : List ℕ). string_bytes c.loop-number.text ++ t) line in
+    let longer = pushed c.as_str.result.now refl c.in_ok-push_str.was c.push_str.ensures.bytes ∙ ap (λ (t : List ℕ). string_bytes c.loop-number.text ++ t) line in
     let done = got.ensures.done s.k s.l p.later p.machine p.represents (p.shut_on b (omega arith)) in
     subst (λ t. Progress (A g) name s.k s.l c.args.log.now (b + 1) (record { session = got.new.session; rows = got.new.rows }) t (c.loop-number.taken + got.result.taken) (c.loop-number.passed + got.result.passed))
     (sym longer)

@@ -6,6 +6,6 @@ use Rattle.sheet.proofs.writing.solved_line.Goals as goal
 
 pub returns : goal.returns
 returns g c =
-    let s = c.in-ok-symbols.ensures in
+    let s = c.in_ok-symbols.ensures in
     let e = line_map (λ x. hex (digits g.F.LogField.name) (g.F.FiniteField.code x)) (decimal c.args.solved.faults) c.args.message.now in
-    c.in-ok-text.ensures.ok ∙ simp (e, s, append_assoc)
+    c.in_ok-text.ensures.ok ∙ simp (e, s, append_assoc)

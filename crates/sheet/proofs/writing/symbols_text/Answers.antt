@@ -11,9 +11,9 @@ loop-symbol-preserved g c =
     let message = c.args.message.now in
     let i = c.loop-symbol.symbol-index in
     let item = c.symbol-item.result in
-    let text = c.as-str.ensures.value ∙ c.in-ok-part.ensures.ok in
+    let text = c.as_str.ensures.value ∙ c.in_ok-part.ensures.ok in
     let read : take (i + 1) message ≡ take i message ++ item ∷ [] = take_more message i item c.loop-symbol-test.true ∙ ap (λ x. take i message ++ x ∷ []) (sym c.symbol-item.is) in
-    pushed c.as-str.result.now c.loop-symbol.invariant c.in-ok-push-str.was c.push-str.ensures.bytes
+    pushed c.as_str.result.now c.loop-symbol.invariant c.in_ok-push_str.was c.push_str.ensures.bytes
     ∙ ap (λ t. flat_map f (take i message) ++ t) text ∙ flat_map_more f [] (take i message) item ∙ ap (flat_map f) (sym read)
 
 pub returns : goal.returns

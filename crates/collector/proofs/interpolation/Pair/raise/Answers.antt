@@ -1,6 +1,7 @@
 use Rattle.std.proofs.Common.{◌≡◌, ℕ, ◌+◌, List, sym, refl, ap, ◌∙◌, ap₂, arith}
 use Rattle.linear.proofs.Fields.{neg_mul, reciprocal_some}
-use Rattle.field.specs.Alphabet.{alphabet, Lawful}
+use Rattle.field.specs.Alphabet.{Lawful}
+use Rattle.field.proofs.Members.{alphabet}
 use Rattle.linearized.specs.Polynomials.{at}
 use Rattle.linearized.specs.Coefficients.{before}
 use Rattle.linearized.proofs.Frobenius.{ratio, ratio_clears}
@@ -10,10 +11,10 @@ use Rattle.collector.proofs.interpolation.Pair.raise.Goals as goal
 
 pub returns : goal.returns
 returns g c =
-    let A = alphabet g.Scalar.FiniteField g.F.FiniteField g.F.SymbolField in
+    let A = alphabet g.F.Scalar.FiniteField g.F.FiniteField g.F.SymbolField in
     let G = g.F.FiniteField.field in
     let raise = g.F.SymbolField.frobenius in
-    let laws : Lawful A = record { scalar_codes = g.met.Scalar.FiniteField.codes; codes = g.met.F.FiniteField.codes; extension = g.met.F.SymbolField.extension } in
+    let laws : Lawful A = record { scalar_codes = g.met.F.Scalar.FiniteField.codes; codes = g.met.F.FiniteField.codes; extension = g.met.F.SymbolField.extension } in
     let p = c.args.self.now in
     let less : c.negative-less.result ≡ G.neg (ratio A c.args.v) =
     c.negative-less.ensures ∙ ap G.neg (c.times.ensures
@@ -30,7 +31,7 @@ returns g c =
             ∙ shifted_written laws c.negative-less.result (polynomial A p.x) (p.degree + 2) (λ i l. c.requires.own.few_x i (omega arith)) n
             ∙ raised (polynomial A p.x) n;
         in_y = λ n. ap (λ f. at G f n) c.shift-2.ensures
-            ∙ shifted_written laws c.negative-less.result (polynomial A p.y) (c.y-places-y-places.result + 1) (λ i l. c.requires.own.few_y i (omega arith)) n
+            ∙ shifted_written laws c.negative-less.result (polynomial A p.y) (c.y_places-y_places.result + 1) (λ i l. c.requires.own.few_y i (omega arith)) n
             ∙ raised (polynomial A p.y) n;
       };
       degree = refl;

@@ -1,7 +1,8 @@
-use Rattle.std.proofs.Common.{◌≡◌, ℕ, ◌+◌, ◌-◌, ◌*◌, ◌^◌, ◌<◌, ◌≤◌, [], ◌∷◌, ◌++◌, length, take, drop, sym, refl, ap, ◌∙◌, subst, arith, rules}
+use Rattle.std.proofs.Common.{◌≡◌, ℕ, ◌+◌, ◌*◌, ◌≤◌, [], ◌∷◌, ◌++◌, length, take, sym, refl, ap, ◌∙◌, subst, arith, rules}
 use borrow.Author.Rules.{scaled_fits≤}
 use Rattle.std.proofs.lemmas.Result.{err_from_is_err_and}
-use Rattle.field.specs.Alphabet.{Alphabet, alphabet, Lawful}
+use Rattle.field.specs.Alphabet.{Alphabet, Lawful}
+use Rattle.field.proofs.Members.{alphabet}
 use Rattle.linear.specs.Span.{Span, Spans, Sum}
 use Rattle.packet.specs.Packets.{packet_rows}
 use Rattle.answer.specs.Refusals.{First}
@@ -16,32 +17,32 @@ use Rattle.collector.proofs.session.Session.drain.Given as given
 use Rattle.collector.proofs.session.Session.drain.Goals as goal
 
 A : (g : given.Over) → Alphabet g.row.F-Scalar.Denot g.row.F.Denot
-A g = alphabet g.Scalar.FiniteField g.F.FiniteField g.F.SymbolField
+A g = alphabet g.F.Scalar.FiniteField g.F.FiniteField g.F.SymbolField
 
 laws : (g : given.Over) → Lawful (A g)
 unfolding A
-laws g = record { scalar_codes = g.met.Scalar.FiniteField.codes; codes = g.met.F.FiniteField.codes; extension = g.met.F.SymbolField.extension }
+laws g = record { scalar_codes = g.met.F.Scalar.FiniteField.codes; codes = g.met.F.FiniteField.codes; extension = g.met.F.SymbolField.extension }
 
-pub returns-in-err-taken : goal.returns-in-err-taken
+pub returns-in_err-taken : goal.returns-in_err-taken
 unfolding A
-returns-in-err-taken g c =
-    let p = err_from_is_err_and c.from-residual.result c.from-residual.ensures.1 in
+returns-in_err-taken g c =
+    let p = err_from_is_err_and c.from_residual.result c.from_residual.ensures.1 in
     let s = c.args.self.now in
     let b = c.args.number in
-    let e = c.in-err-taken.field-0.0 in
-    let why = subst (λ n. First (shut_refusals (A g) s c.args.rows.now b ++ ((Overfull s b n, ListFull) ∷ [])) e) c.len.ensures c.in-err-taken.ensures in
+    let e = c.in_err-taken.field-0.0 in
+    let why = subst (λ n. First (shut_refusals (A g) s c.args.rows.now b ++ ((Overfull s b n, ListFull) ∷ [])) e) c.len.ensures c.in_err-taken.ensures in
     record { drains = rw (p.1, p.2) (why, refl, (refl, refl)); refused = λ e is. refl; same = refl }
 
-pub offset-bounds-rows-from : goal.offset-bounds-rows-from
+pub offset_bounds-rows-from : goal.offset_bounds-rows-from
 unfolding A
-offset-bounds-rows-from g c =
-    let h = ready_window (A g) c.args.self.now c.args.rows.now c.args.number c.in-ok-taken.ensures.0 c.m.result c.m.ensures in
+offset_bounds-rows-from g c =
+    let h = ready_window (A g) c.args.self.now c.args.rows.now c.args.number c.in_ok-taken.ensures.0 c.m.result c.m.ensures in
     let from : c.args.number * (c.args.self.now.l + c.m.result) ≤ length c.args.rows.now = omega arith in search (rules, scaled_fits≤)
 
-pub slice-bounds-window-end : goal.slice-bounds-window-end
+pub slice_bounds-window-end : goal.slice_bounds-window-end
 unfolding A
-slice-bounds-window-end g c =
-    let h = ready_window (A g) c.args.self.now c.args.rows.now c.args.number c.in-ok-taken.ensures.0 c.m.result c.m.ensures in search rules
+slice_bounds-window-end g c =
+    let h = ready_window (A g) c.args.self.now c.args.rows.now c.args.number c.in_ok-taken.ensures.0 c.m.result c.m.ensures in search rules
 
 pub fill-dimension-requires : goal.fill-dimension-requires
 unfolding A
@@ -49,9 +50,9 @@ fill-dimension-requires g c =
     let s = c.args.self.now in
     let b = c.args.number in
     let rows = c.args.rows.now in
-    let (ready, was, room) = c.in-ok-taken.ensures in
-    let n = c.in-ok-taken.taken in
-    let d = c.in-ok-taken.dimension in
+    let (ready, was, room) = c.in_ok-taken.ensures in
+    let n = c.in_ok-taken.taken in
+    let d = c.in_ok-taken.dimension in
     let part = part_is (A g) s.l c.m.result b rows c.m.ensures in
     record {
       window = subst (PacketWindow (A g) s.l d) (sym part) (ready_packets (laws g) s rows b ready n d was);
@@ -66,9 +67,9 @@ returns g c =
     let b = c.args.number in
     let list = g.D.Feed.list in
     let feed = list c.args.feed.now in
-    let n = c.in-ok-taken.taken in
-    let d = c.in-ok-taken.dimension in
-    let (ready, was, room) = c.in-ok-taken.ensures in
+    let n = c.in_ok-taken.taken in
+    let d = c.in_ok-taken.dimension in
+    let (ready, was, room) = c.in_ok-taken.ensures in
     let filled = c.fill-dimension.ensures in
     let M = c.fill-dimension.new.window in
     let e = c.fill-dimension.result.0 in

@@ -1,8 +1,9 @@
-use Rattle.std.proofs.Common.{◌≡◌, ℕ, ◌+◌, ◌-◌, ◌*◌, ◌<◌, ◌≤◌, List, [], ◌∷◌, ◌++◌, length, take, drop, sym, refl, ap, ◌∙◌, subst, inl, inr, arith, Fits-lit, rules}
+use Rattle.std.proofs.Common.{◌≡◌, ℕ, ◌+◌, ◌*◌, ◌≤◌, List, ◌∷◌, ◌++◌, length, sym, refl, ap, subst, inl, inr, arith, Fits-lit, rules}
 use borrow.Author.Rules.{scaled_fits≤}
-use mir.Facts.{FitsLt}
+use mir.Facts.{Fits-lt}
 use Rattle.std.proofs.lemmas.Result.{err_from_is_err_and}
-use Rattle.field.specs.Alphabet.{Alphabet, alphabet, Lawful}
+use Rattle.field.specs.Alphabet.{Alphabet, Lawful}
+use Rattle.field.proofs.Members.{alphabet}
 use Rattle.linear.specs.Span.{Each, Span, IsDim}
 use Rattle.packet.specs.Packets.{packet_rows}
 use Rattle.packet.specs.Headers.{HeaderBelow}
@@ -22,53 +23,53 @@ use Rattle.collector.proofs.session.Session.solve.Given as given
 use Rattle.collector.proofs.session.Session.solve.Goals as goal
 
 A : (g : given.Over) → Alphabet g.row.F-Scalar.Denot g.row.F.Denot
-A g = alphabet g.Scalar.FiniteField g.F.FiniteField g.F.SymbolField
+A g = alphabet g.F.Scalar.FiniteField g.F.FiniteField g.F.SymbolField
 
 laws : (g : given.Over) → Lawful (A g)
 unfolding A
-laws g = record { scalar_codes = g.met.Scalar.FiniteField.codes; codes = g.met.F.FiniteField.codes; extension = g.met.F.SymbolField.extension }
+laws g = record { scalar_codes = g.met.F.Scalar.FiniteField.codes; codes = g.met.F.FiniteField.codes; extension = g.met.F.SymbolField.extension }
 
-pub returns-in-err-dimension : goal.returns-in-err-dimension
+pub returns-in_err-dimension : goal.returns-in_err-dimension
 unfolding A
-returns-in-err-dimension g c =
-    let p = err_from_is_err_and c.from-residual.result c.from-residual.ensures.1 in
+returns-in_err-dimension g c =
+    let p = err_from_is_err_and c.from_residual.result c.from_residual.ensures.1 in
     let s = c.args.self.now in
     let b = c.args.number in
     rw (p.1, p.2) (
       first_left (shut_refusals (A g) s c.args.rows.now b)
-          (solve_causes (A g) s.k s.l (taken_space (A g) s c.args.rows.now b) (held (record_of s b)) (length c.args.output.now)) c.in-err-dimension.field-0.0 c.in-err-dimension.ensures,
+          (solve_causes (A g) s.k s.l (taken_space (A g) s c.args.rows.now b) (held (record_of s b)) (length c.args.output.now)) c.in_err-dimension.field-0.0 c.in_err-dimension.ensures,
       refl,
     )
 
 -- the number's window and its reduced rows lie among the rows
-inside : (g : given.Over) (c : goal.After-m g) → c.args.number * (c.args.self.now.l + c.m.result) + c.in-ok-dimension.dimension ≤ length c.args.rows.now
+inside : (g : given.Over) (c : goal.After-m g) → c.args.number * (c.args.self.now.l + c.m.result) + c.in_ok-dimension.dimension ≤ length c.args.rows.now
 unfolding A
 inside g c =
     let s = c.args.self.now in
-    let (ready, was) = c.in-ok-dimension.ensures in
+    let (ready, was) = c.in_ok-dimension.ensures in
     omega (
       arith,
       ready_window (A g) s c.args.rows.now c.args.number ready c.m.result c.m.ensures,
       c.m.ensures,
-      held_width (laws g) s c.args.rows.now c.args.number ready c.in-ok-dimension.field-0-0 c.in-ok-dimension.dimension was,
+      held_width (laws g) s c.args.rows.now c.args.number ready c.in_ok-dimension.field-0-0 c.in_ok-dimension.dimension was,
     )
 
-pub overflow-add-dimension : goal.overflow-add-dimension
+pub overflow_add-dimension : goal.overflow_add-dimension
 unfolding A
-overflow-add-dimension g c =
+overflow_add-dimension g c =
     let s = c.args.self.now in
-    let (ready, was) = c.in-ok-dimension.ensures in
+    let (ready, was) = c.in_ok-dimension.ensures in
     let wide = width_limit (A g) (laws g) s.l ready.allowed.2 in
-    let low = held_width (laws g) s c.args.rows.now c.args.number ready c.in-ok-dimension.field-0-0 c.in-ok-dimension.dimension was in
-    FitsLt {n = 100} (omega (arith, wide, low, ready.allowed.1)) (Fits-lit tt)
+    let low = held_width (laws g) s c.args.rows.now c.args.number ready c.in_ok-dimension.field-0-0 c.in_ok-dimension.dimension was in
+    Fits-lt {n = 100} (omega (arith, wide, low, ready.allowed.1)) (Fits-lit tt)
 
-pub offset-bounds-rows-from : goal.offset-bounds-rows-from
-offset-bounds-rows-from g c =
+pub offset_bounds-rows-from : goal.offset_bounds-rows-from
+offset_bounds-rows-from g c =
     let h = inside g c in
     let from : c.args.number * (c.args.self.now.l + c.m.result) ≤ length c.args.rows.now = omega arith in search (rules, scaled_fits≤)
 
-pub slice-bounds-decode-end : goal.slice-bounds-decode-end
-slice-bounds-decode-end g c = let h = inside g c in search rules
+pub slice_bounds-decode-end : goal.slice_bounds-decode-end
+slice_bounds-decode-end g c = let h = inside g c in search rules
 
 pub decode-requires : goal.decode-requires
 unfolding A
@@ -76,10 +77,10 @@ decode-requires g c =
     let s = c.args.self.now in
     let rows = c.args.rows.now in
     let b = c.args.number in
-    let n = c.in-ok-dimension.field-0-0 in
-    let d = c.in-ok-dimension.dimension in
+    let n = c.in_ok-dimension.field-0-0 in
+    let d = c.in_ok-dimension.dimension in
     let R = packet_rows (A g) in
-    let (ready, was) = c.in-ok-dimension.ensures in
+    let (ready, was) = c.in_ok-dimension.ensures in
     let part = sym (reduced_part (laws g) s rows b ready n d was c.m.result c.m.ensures) in
     let is = ap held was in
     record {
@@ -96,11 +97,11 @@ returns-in-Some g c =
     let s = c.args.self.now in
     let rows = c.args.rows.now in
     let b = c.args.number in
-    let n = c.in-ok-dimension.field-0-0 in
-    let d = c.in-ok-dimension.dimension in
+    let n = c.in_ok-dimension.field-0-0 in
+    let d = c.in_ok-dimension.dimension in
     let output = c.args.output.now in
     let written = c.decode.new.output in
-    let (ready, was) = c.in-ok-dimension.ensures in
+    let (ready, was) = c.in_ok-dimension.ensures in
     let part = reduced_part (laws g) s rows b ready n d was c.m.result c.m.ensures in
     let here = subst (λ L. SolveAnswer (A g) s.k s.l (Span (packet_rows (A g)) L) (length L) output written c.in-Some.solved) part c.in-Some.ensures in
     let answer = subst (λ r. SolveAnswer (A g) s.k s.l (taken_space (A g) s rows b) r output written c.in-Some.solved) (held_long (laws g) s rows b ready n d was) here in
@@ -125,10 +126,10 @@ returns-in-None g c =
     let s = c.args.self.now in
     let rows = c.args.rows.now in
     let b = c.args.number in
-    let n = c.in-ok-dimension.field-0-0 in
-    let d = c.in-ok-dimension.dimension in
+    let n = c.in_ok-dimension.field-0-0 in
+    let d = c.in_ok-dimension.dimension in
     let output = c.args.output.now in
-    let (ready, was) = c.in-ok-dimension.ensures in
+    let (ready, was) = c.in_ok-dimension.ensures in
     let part = reduced_part (laws g) s rows b ready n d was c.m.result c.m.ensures in
     let nowhere = subst (λ L. (u : List _) → ¬ Within (A g) s.k s.l (Span (packet_rows (A g)) L) u) part c.in-None.ensures.0 in
     let is = ap held was in (
@@ -158,8 +159,8 @@ refused g s rows b places n d e ready was first =
 pub returns-then-output-self : goal.returns-then-output-self
 unfolding A
 returns-then-output-self g c =
-    let (ready, was) = c.in-ok-dimension.ensures in (
-      refused g c.args.self.now c.args.rows.now c.args.number (length c.args.output.now) c.in-ok-dimension.field-0-0 c.in-ok-dimension.dimension OutputShort ready was
+    let (ready, was) = c.in_ok-dimension.ensures in (
+      refused g c.args.self.now c.args.rows.now c.args.number (length c.args.output.now) c.in_ok-dimension.field-0-0 c.in_ok-dimension.dimension OutputShort ready was
           (inl (c.if-output-self.true, refl)),
       refl,
     )
@@ -167,10 +168,10 @@ returns-then-output-self g c =
 pub returns-then-dimension-self : goal.returns-then-dimension-self
 unfolding A
 returns-then-dimension-self g c =
-    let d = c.in-ok-dimension.dimension in
-    let (ready, was) = c.in-ok-dimension.ensures in
+    let d = c.in_ok-dimension.dimension in
+    let (ready, was) = c.in_ok-dimension.ensures in
     let is = ap held was in (
-      refused g c.args.self.now c.args.rows.now c.args.number (length c.args.output.now) c.in-ok-dimension.field-0-0 d (DimensionLow d) ready was
+      refused g c.args.self.now c.args.rows.now c.args.number (length c.args.output.now) c.in_ok-dimension.field-0-0 d (DimensionLow d) ready was
           (inr (λ h. omega (arith, h, c.if-output-self.false), inl (omega (arith, is, c.if-dimension-self.true), ap DimensionLow (sym is)))),
       refl,
     )
@@ -178,10 +179,10 @@ returns-then-dimension-self g c =
 pub returns-then-self-dimension : goal.returns-then-self-dimension
 unfolding A
 returns-then-self-dimension g c =
-    let d = c.in-ok-dimension.dimension in
-    let (ready, was) = c.in-ok-dimension.ensures in
+    let d = c.in_ok-dimension.dimension in
+    let (ready, was) = c.in_ok-dimension.ensures in
     let is = ap held was in (
-      refused g c.args.self.now c.args.rows.now c.args.number (length c.args.output.now) c.in-ok-dimension.field-0-0 d (DimensionHigh d) ready was
+      refused g c.args.self.now c.args.rows.now c.args.number (length c.args.output.now) c.in_ok-dimension.field-0-0 d (DimensionHigh d) ready was
           (inr (λ h. omega (arith, h, c.if-output-self.false), inr (λ h. omega (arith, h, is, c.if-dimension-self.false), inl (omega (arith, is, c.if-self-dimension.true), ap DimensionHigh (sym is))))),
       refl,
     )

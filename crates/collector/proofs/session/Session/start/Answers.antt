@@ -1,12 +1,9 @@
-use Rattle.std.proofs.Common.{◌≡◌, ℕ, ◌+◌, ◌*◌, ◌<◌, ◌≤◌, [], ◌∷◌, length, sym, refl, ap, ◌∙◌, subst, inl, inr, arith, rules}
-use Rattle.std.proofs.lemmas.Result.{err_from_is_err_and}
-use Rattle.field.specs.Alphabet.{Alphabet, alphabet, Lawful}
-use Rattle.answer.specs.declared.refusal.Refusal.TheVariants.{NotOpen, AlreadyOpen}
-use Rattle.collector.specs.declared.session.Number.TheVariants.{Shut, Open}
+use Rattle.std.proofs.Common.{◌+◌, ◌*◌, ◌≤◌, length, sym, refl, subst, arith}
+use Rattle.field.specs.Alphabet.{Alphabet, Lawful}
+use Rattle.field.proofs.Members.{alphabet}
 use Rattle.collector.specs.Regions.{width}
-use Rattle.collector.specs.Session.{Allowed, record_of, base_refusals, shut_refusals}
-use Rattle.answer.proofs.Causes.{first_left}
-use Rattle.collector.proofs.Sessions.{ready_none, ready_first, not_shut, ready_window, width_limit, cleared_front}
+use Rattle.collector.specs.Session.{Allowed}
+use Rattle.collector.proofs.Sessions.{cleared_front}
 use Rattle.collector.specs.declared.session.Session.{Session}
 use Rattle.collector.specs.Laws.{Exact}
 use Rattle.collector.proofs.Runs.{fresh_faithful, ok_same}
@@ -16,11 +13,11 @@ use Rattle.collector.proofs.session.Session.start.Given as given
 use Rattle.collector.proofs.session.Session.start.Goals as goal
 
 A : (g : given.Over) → Alphabet g.row.F-Scalar.Denot g.row.F.Denot
-A g = alphabet g.Scalar.FiniteField g.F.FiniteField g.F.SymbolField
+A g = alphabet g.F.Scalar.FiniteField g.F.FiniteField g.F.SymbolField
 
 laws : (g : given.Over) → Lawful (A g)
 unfolding A
-laws g = record { scalar_codes = g.met.Scalar.FiniteField.codes; codes = g.met.F.FiniteField.codes; extension = g.met.F.SymbolField.extension }
+laws g = record { scalar_codes = g.met.F.Scalar.FiniteField.codes; codes = g.met.F.FiniteField.codes; extension = g.met.F.SymbolField.extension }
 
 pub returns : goal.returns
 unfolding A

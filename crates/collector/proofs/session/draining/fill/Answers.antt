@@ -1,34 +1,33 @@
-use Rattle.std.proofs.Common.{◌≡◌, ◌+◌, ◌^◌, ◌<◌, ◌≤◌, [], ◌∷◌, length, sym, refl, ap, ◌∙◌, subst, arith}
-use Rattle.linear.specs.Span.{Span}
-use Rattle.field.specs.Alphabet.{Alphabet, alphabet, Lawful}
-use Rattle.packet.specs.Packets.{packet_rows}
+use Rattle.std.proofs.Common.{◌^◌, ◌<◌, ◌≤◌, refl, ◌∙◌, subst, arith}
+use Rattle.field.specs.Alphabet.{Alphabet, Lawful}
+use Rattle.field.proofs.Members.{alphabet}
 use Rattle.feed.proofs.Nexts.{gives_some, gives_not_some}
 use Rattle.collector.specs.Answers.{DrainAnswer}
 use Rattle.collector.proofs.Room.{packet_room, packets_valid}
-use Rattle.collector.proofs.Draining.{Filling, filling_start, filling_pass, filling_keep, filling_all, filling_end, filling_few}
+use Rattle.collector.proofs.Draining.{filling_start, filling_pass, filling_keep, filling_all, filling_end, filling_few}
 use Rattle.collector.proofs.session.draining.fill.Given as given
 use Rattle.collector.proofs.session.draining.fill.Goals as goal
 
 A : (g : given.Over) → Alphabet g.row.F-Scalar.Denot g.row.F.Denot
-A g = alphabet g.Scalar.FiniteField g.F.FiniteField g.F.SymbolField
+A g = alphabet g.F.Scalar.FiniteField g.F.FiniteField g.F.SymbolField
 
 laws : (g : given.Over) → Lawful (A g)
 unfolding A
-laws g = record { scalar_codes = g.met.Scalar.FiniteField.codes; codes = g.met.F.FiniteField.codes; extension = g.met.F.SymbolField.extension }
+laws g = record { scalar_codes = g.met.F.Scalar.FiniteField.codes; codes = g.met.F.FiniteField.codes; extension = g.met.F.SymbolField.extension }
 
 pub loop-packet-init : goal.loop-packet-init
 unfolding A
 loop-packet-init g c = (filling_start (laws g) c.args.l c.args.dimension c.requires.window, refl)
 
-pub overflow-add-drained : goal.overflow-add-drained
+pub overflow_add-drained : goal.overflow_add-drained
 unfolding A
-overflow-add-drained g c =
+overflow_add-drained g c =
     let few = filling_few (laws g) c.args.l c.loop-packet.invariant.0 in
     let short = g.D.Feed.short c.args.feed.now in omega arith
 
-pub overflow-add-drained-else-limit-code : goal.overflow-add-drained-else-limit-code
+pub overflow_add-drained-else-limit-code : goal.overflow_add-drained-else-limit-code
 unfolding A
-overflow-add-drained-else-limit-code g c =
+overflow_add-drained-else-limit-code g c =
     let few = filling_few (laws g) c.args.l c.loop-packet.invariant.0 in
     let short = g.D.Feed.short c.args.feed.now in omega arith
 
@@ -37,16 +36,16 @@ unfolding A
 loop-packet-preserved-then-limit-code g c =
     let n = c.in-Some.ensures in
     let list = g.D.Feed.list in
-    let high : (A g).q ^ c.args.l ≤ (A g).code c.in-Some.packet.x = omega (arith, c.header-limit-limit.ensures, c.code.ensures) in (
+    let high : (A g).q ^ c.args.l ≤ (A g).code c.in-Some.packet.x = omega (arith, c.header_limit-limit.ensures, c.code.ensures) in (
       filling_pass (laws g) c.args.l c.in-Some.packet (gives_some (list c.loop-packet.feed) (list c.next.new.self) c.in-Some.packet n.gives) high c.loop-packet.invariant.0,
       n.same ∙ c.loop-packet.invariant.1,
     )
 
-pub add-row-requires : goal.add-row-requires
+pub add_row-requires : goal.add_row-requires
 unfolding A
-add-row-requires g c =
+add_row-requires g c =
     let f = c.loop-packet.invariant.0 in
-    let low : (A g).code c.in-Some.packet.x < (A g).q ^ c.args.l = omega (arith, c.header-limit-limit.ensures, c.code.ensures) in
+    let low : (A g).code c.in-Some.packet.x < (A g).q ^ c.args.l = omega (arith, c.header_limit-limit.ensures, c.code.ensures) in
     record {
       window = f.window.0;
       valid = packets_valid _;
@@ -59,9 +58,9 @@ unfolding A
 loop-packet-preserved g c =
     let n = c.in-Some.ensures in
     let list = g.D.Feed.list in
-    let low : (A g).code c.in-Some.packet.x < (A g).q ^ c.args.l = omega (arith, c.header-limit-limit.ensures, c.code.ensures) in (
+    let low : (A g).code c.in-Some.packet.x < (A g).q ^ c.args.l = omega (arith, c.header_limit-limit.ensures, c.code.ensures) in (
       filling_keep (laws g) c.args.l c.in-Some.packet c.requires.wide.0 (gives_some (list c.loop-packet.feed) (list c.next.new.self) c.in-Some.packet n.gives) low
-          c.loop-packet.invariant.0 c.add-row.ensures.added,
+          c.loop-packet.invariant.0 c.add_row.ensures.added,
       n.same ∙ c.loop-packet.invariant.1,
     )
 
@@ -70,7 +69,7 @@ unfolding A
 returns g c =
     let list = g.D.Feed.list in
     let f = c.loop-packet.invariant.0 in
-    let none = gives_not_some (list c.loop-packet.feed) (list c.next.new.self) c.next.result c.next.ensures.gives c.in-default.not-Some in
+    let none = gives_not_some (list c.loop-packet.feed) (list c.next.new.self) c.next.result c.next.ensures.gives c.in_default.not-Some in
     record {
       window = f.window;
       spans = filling_end (laws g) c.args.l c.requires.window.0 f none.0;

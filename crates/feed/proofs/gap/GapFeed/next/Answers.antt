@@ -1,7 +1,7 @@
 use Rattle.std.proofs.Common.{◌<◌, ◌∙◌, arith}
 use Rattle.feed.proofs.Steps.{gap_here, gap_ahead}
 use Rattle.feed.proofs.gap.GapFeed.next.Goals as goal
-use Rattle.feed.proofs.gap.GapFeed.next.Goals.{in-Some+then-place-eq0, in-Some+else-place-eq0, in-default}
+use Rattle.feed.proofs.gap.GapFeed.next.Goals.{in-Some+then-place-eq0, in-Some+else-place-eq0, in_default}
 
 pub returns : goal.returns
 returns g c =
@@ -13,7 +13,7 @@ returns g c =
           (let last = rw w.self-is at c.next-2.ensures in
           let h : 0 < w.in-Some.place = omega (arith, w.if-place-eq0.false) in
           record { gives = rw (w.in-Some.is, w.self-is) (gap_ahead w.in-Some.place _ _ _ h last.gives); same = last.same })
-      | in-default w ↦
+      | in_default w ↦
           (let last = rw w.self-is at c.next-2.ensures in
-          record { gives = rw (w.self-is, w.in-default.is) last.gives; same = last.same })
+          record { gives = rw (w.self-is, w.in_default.is) last.gives; same = last.same })
     ]

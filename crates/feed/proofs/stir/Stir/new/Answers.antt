@@ -1,5 +1,5 @@
 use Rattle.std.proofs.Common.{rules}
-use Rattle.field.specs.Alphabet.{alphabet}
+use Rattle.field.proofs.Members.{alphabet}
 use Rattle.feed.proofs.Stirring.{stirred_stirs}
 use Rattle.feed.proofs.stir.Stir.new.Goals as goal
 

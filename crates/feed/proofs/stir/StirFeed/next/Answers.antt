@@ -1,4 +1,4 @@
-use Rattle.field.specs.Alphabet.{alphabet}
+use Rattle.field.proofs.Members.{alphabet}
 use Rattle.feed.proofs.Steps.{stir_ends, stir_first, stir_more}
 use Rattle.feed.proofs.stir.StirFeed.next.Goals as goal
 use Rattle.feed.proofs.stir.StirFeed.next.Goals.{in-None-last, in-Some-last}
@@ -8,7 +8,7 @@ returns-in-None g c = record { gives = stir_ends _ _ _ _ _ c.in-None.ensures.giv
 
 pub returns-after-self : goal.returns-after-self
 returns-after-self g c =
-    let A = alphabet g.Scalar.FiniteField g.F.FiniteField g.F.SymbolField in
+    let A = alphabet g.F.Scalar.FiniteField g.F.FiniteField g.F.SymbolField in
     let by = c.args.self.now.scalar in
     elim c.match-self.branch [
       | in-None-last w ↦

@@ -16,8 +16,8 @@ unfolding digit
 loop-i-preserved c =
     let i = c.loop-i.i in
     let part = c.scale-sum.ensures.value ∙ ap₂ (product 4 (iterate scale_x)) (and_mask (c.args.a / 2 ^ (4 * i)) 4) c.loop-i.invariant.1 in (
-      c.times-z-power.ensures.within,
-      c.times-z-power.ensures.value ∙ ap times_z c.loop-i.invariant.1 ∙ iterate_step times_z i c.args.b,
+      c.times_z-power.ensures.within,
+      c.times_z-power.ensures.value ∙ ap times_z c.loop-i.invariant.1 ∙ iterate_step times_z i c.args.b,
       ap₂ bit_xor c.loop-i.invariant.2 part ∙ nibble_step i c.args.a c.args.b,
     )
 

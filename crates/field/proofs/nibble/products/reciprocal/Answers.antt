@@ -18,8 +18,8 @@ module _ (a b norm : ℕ) (h : a < 2 ^ 28) (q : a ≢ 0) (p : b ≡ pow nibble_p
   norm_not_zero : norm ≢ 0
   norm_not_zero z = power_not_zero nibbles_binary a h q 0x1111111 (sym norm_is ∙ z)
 
-pub overflow-cast-norm : goal.overflow-cast-norm
-overflow-cast-norm c =
+pub overflow_cast-norm : goal.overflow_cast-norm
+overflow_cast-norm c =
     record { fits = le_trans (norm_less c.args.a c.conjugates-others.result _ c.requires.0 c.requires.1 c.conjugates-others.ensures.value c.product-norm.ensures.value) (lit≤ tt) }
 
 pub reciprocal-requires : goal.reciprocal-requires

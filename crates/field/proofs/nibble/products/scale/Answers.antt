@@ -16,8 +16,8 @@ loop-i-init c = (c.requires.1, refl, product_none (iterate scale_x) c.args.d c.a
 
 pub loop-i-preserved : goal.loop-i-preserved
 loop-i-preserved c = (
-  c.times_x_power.ensures.within,
-  c.times_x_power.ensures.value ∙ ap scale_x c.loop-i.invariant.1 ∙ iterate_step scale_x c.loop-i.i c.args.b,
+  c.times_x-power.ensures.within,
+  c.times_x-power.ensures.value ∙ ap scale_x c.loop-i.invariant.1 ∙ iterate_step scale_x c.loop-i.i c.args.b,
   elim c.if-d-i-eq1.branch [
     | then-d-i-eq1 w ↦ w.sum-is ∙ ap₂ bit_xor c.loop-i.invariant.2 c.loop-i.invariant.1 ∙ product_taken (iterate scale_x) c.args.d c.args.b c.loop-i.i w.if-d-i-eq1.true
     | else-d-i-eq1 w ↦ w.sum-is ∙ c.loop-i.invariant.2 ∙ product_left (iterate scale_x) c.args.d c.args.b c.loop-i.i w.if-d-i-eq1.false

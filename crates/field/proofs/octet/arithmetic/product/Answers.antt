@@ -17,7 +17,7 @@ pub returns : goal.returns
 returns c =
     let sum = exponent_sum c.args.a c.args.b c.exponent.result c.exponent-2.result c.exponent.ensures c.exponent-2.ensures in
     let turned = exponent_turned c.args.a c.args.b c.exponent.result c.exponent-2.result c.exponent.ensures c.exponent-2.ensures in
-    c.power-of-three.ensures
+    c.power_of_three.ensures
     ∙ elim c.if-sum-lt255.branch [
       | then-sum-lt255 w ↦ sum c.if-sum-lt255.turned (omega (arith, w.turned-is))
       | else-sum-lt255 w ↦ turned c.if-sum-lt255.turned (omega (arith, w.turned-is))

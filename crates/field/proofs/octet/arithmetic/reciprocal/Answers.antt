@@ -5,5 +5,5 @@ use Rattle.field.proofs.octet.arithmetic.reciprocal.Goals as goal
 
 pub returns : goal.returns
 returns c =
-    exponent_one c.args.a c.power-of-three.result c.exponent.result (255 - c.exponent.result) c.exponent.ensures
-    (sym c.power-of-three.ensures) (omega (arith, c.exponent.type-inv))
+    exponent_one c.args.a c.power_of_three.result c.exponent.result (255 - c.exponent.result) c.exponent.ensures
+    (sym c.power_of_three.ensures) (omega (arith, c.exponent.type_inv))

@@ -12,8 +12,8 @@ squared : (c : goal.After-image) → c.image.result ≡ raise word_product 1 c.a
 unfolding computing
 squared c = c.image.ensures ∙ image_is 16 8 (raise word_product 1) (raise_linear words_binary.ring 1).adds refl c.args.a (omega arith) _ refl tt
 
-pub overflow-cast-result : goal.overflow-cast-result
-overflow-cast-result c = record { fits = subst (λ (x : ℕ). x < 2 ^ 16) (sym (squared c)) (words_binary.raise_in c.args.a (omega arith)) }
+pub overflow_cast-result : goal.overflow_cast-result
+overflow_cast-result c = record { fits = subst (λ (x : ℕ). x < 2 ^ 16) (sym (squared c)) (words_binary.raise_in c.args.a (omega arith)) }
 
 pub returns : goal.returns
 returns c = squared c

@@ -3,7 +3,7 @@ use native.Mathlib.Nat.{sub-zero}
 use Rattle.std.proofs.lemmas.List.{drop_all, take_rest}
 use Rattle.std.proofs.iter.Next.{stops, firm}
 use Rattle.portal_log.specs.Text.{before, lines}
-use Rattle.portal_log.specs.Places.{Placed, placed, Stands}
+use Rattle.portal_log.specs.Places.{placed, Stands}
 use Rattle.portal_log.proofs.Places.{line_cut, placed_cut, line_stands}
 use Rattle.portal_log.proofs.text.LinesIterator.next.Goals as goal
 use Rattle.portal_log.proofs.text.LinesIterator.next.Goals.{then-end-rest, else-end-rest}
@@ -13,7 +13,7 @@ returns-then-place-text c =
     let s = c.args.self.now in
     let none = ap lines (drop_all s.place s.text.now c.if-place-text.true) in
     let nowhere = ap (placed s.place) none in
-    record { steps = record { gives = (none, none); places = (nowhere, nowhere); stands = tt; same = refl; fits = omega arith }; goes = stops }
+    record { steps = record { gives = (none, none); places = (nowhere, nowhere); stands = tt; same = refl; fits = omega arith }; goes = stops (λ h. h) }
 
 pub returns : goal.returns
 returns c =

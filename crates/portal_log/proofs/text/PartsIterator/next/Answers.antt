@@ -1,4 +1,4 @@
-use Rattle.std.proofs.Common.{◌≡◌, ◌+◌, ◌-◌, ◌<◌, ◌≤◌, ◌∷◌, length, take, drop, sym, refl, ap, ◌∙◌, ap₂, arith, rules}
+use Rattle.std.proofs.Common.{◌≡◌, ◌+◌, ◌-◌, ◌∷◌, length, take, sym, ap, ◌∙◌, arith, rules}
 use native.Mathlib.Nat.{sub-zero}
 use Rattle.std.proofs.lemmas.List.{take_rest}
 use Rattle.portal_log.specs.Text.{parts}
@@ -10,7 +10,7 @@ use Rattle.std.proofs.iter.Next.{firm}
 
 pub returns : goal.returns
 returns c =
-    let text = c.in-ok-rest.rest.now in
+    let text = c.in_ok-rest.rest.now in
     let end = c.before-end.result in
     let is = c.before-end.ensures.value in
     let cut : parts text ≡ take end text ∷ parts_of c.if-end-rest.self = elim c.if-end-rest.branch [
@@ -19,5 +19,5 @@ returns c =
       | else-end-rest w ↦ parts_last text end is w.if-end-rest.false ∙ ap (λ o. take end text ∷ parts_of o) (sym w.self-is)
     ] in
     let steps : parts_of c.args.self.now.rest ≡ take (end - 0) text ∷ parts_of c.if-end-rest.self =
-    ap parts_of c.in-ok-rest.was ∙ cut ∙ ap (λ n. take n text ∷ parts_of c.if-end-rest.self) (sym (sub-zero end)) in
+    ap parts_of c.in_ok-rest.was ∙ cut ∙ ap (λ n. take n text ∷ parts_of c.if-end-rest.self) (sym (sub-zero end)) in
     record { steps = steps; goes = firm ((tt, tt, omega (arith, ap length steps))) (λ h. search rules) }

@@ -10,5 +10,5 @@ returns-then-self-eq0 c = no_inverse (field_by_codes octets octets_binary) c.arg
 
 pub returns-else-self-eq0 : goal.returns-else-self-eq0
 returns-else-self-eq0 c =
-    is_inverse (field_by_codes octets octets_binary) _ c.args.self c.reciprocal.result c.of.ensures c.reciprocal.type-inv
+    is_inverse (field_by_codes octets octets_binary) _ c.args.self c.reciprocal.result c.of.ensures c.reciprocal.type_inv
     c.if-self-eq0.false c.reciprocal.ensures

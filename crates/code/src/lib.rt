@@ -1,6 +1,0 @@
-// The Koetter-Kschischang code as calls: encoding, and division of linearized polynomials.
-mod coefficients;
-pub mod division;
-pub mod encoding;
-pub mod evaluation;
-pub mod holding;

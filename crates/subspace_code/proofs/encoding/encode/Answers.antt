@@ -1,0 +1,30 @@
+use Rattle.std.proofs.Common.{◌≤◌, take, drop, sym, ap, ◌∙◌, subst, rules}
+use Rattle.std.proofs.lemmas.List.{take_at}
+use Rattle.std.proofs.lemmas.List.FromFn.{length-map-range_with_len}
+use Rattle.linear.specs.Span.{Each}
+use Rattle.field.specs.Alphabet.{Alphabet, Lawful}
+use Rattle.field.proofs.Members.{alphabet}
+use Rattle.linearized.specs.Code.{Codeword, packet_at, basis, packets}
+use Rattle.subspace_code.proofs.Codewords.{packets_codewords}
+use Rattle.subspace_code.proofs.encoding.encode.Given as given
+use Rattle.subspace_code.proofs.encoding.encode.Goals as goal
+
+A : (g : given.Over) → Alphabet g.row.F-Scalar.Denot g.row.F.Denot
+A g = alphabet g.F.Scalar.FiniteField g.F.FiniteField g.F.SymbolField
+
+laws : (g : given.Over) → Lawful (A g)
+unfolding A
+laws g = record { scalar_codes = g.met.F.Scalar.FiniteField.codes; codes = g.met.F.FiniteField.codes; extension = g.met.F.SymbolField.extension }
+
+pub returns : goal.returns
+unfolding A
+returns g c =
+    let ℓ = c.args.l in
+    let u = c.args.message.now in
+    let small : ℓ ≤ g.F.SymbolField.m = search rules in
+    let front = take_at (packets (A g) ℓ u) (drop ℓ c.args.output.now) ℓ (length-map-range_with_len (λ i. packet_at (A g) u (basis (A g) i)) 0 ℓ) in
+    record {
+      answer = search rules;
+      output = search rules;
+      codewords = λ _. subst (Each (Codeword (A g) ℓ u)) (sym (ap (take ℓ) c.write_packets.ensures ∙ front)) (packets_codewords (A g) (laws g) ℓ u small);
+    }

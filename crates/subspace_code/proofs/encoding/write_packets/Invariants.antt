@@ -1,0 +1,10 @@
+-- After i turns the code is q^i, and the first i packets stand at the front.
+use Rattle.std.proofs.Common.{◌≡◌, ◌^◌, ◌++◌, drop}
+use Rattle.field.proofs.Members.{alphabet}
+use Rattle.linearized.specs.Code.{packets}
+use Rattle.subspace_code.proofs.encoding.write_packets.Given as goal
+
+abbrev pub invariant-loop-i : goal.invariant-loop-i
+invariant-loop-i g l =
+    (l.code ≡ g.F.SymbolField.q ^ l.i)
+    × (l.output ≡ packets (alphabet g.F.Scalar.FiniteField g.F.FiniteField g.F.SymbolField) l.i l.message ++ drop l.i l.initial.output)

@@ -1,0 +1,62 @@
+// Encoding: a block of k symbols becomes ℓ packets.
+ghost use Rattle.std.specs.Prelude.{◌≡◌, ◌≤◌, ◌++◌, length, take, drop, Ok};
+ghost use Rattle.linear.specs.Span.{Each};
+ghost use Rattle.field.specs.Alphabet.{alphabet};
+ghost use Rattle.linearized.specs.Code.{packets, Codeword};
+ghost use Rattle.answer.specs.Refusals.{answered};
+ghost use Rattle.subspace_code.specs.Encoding.{encode_refusal, encoded};
+
+use crate::evaluation::evaluate;
+use crate::holding::AsSymbols;
+use answer::refusal::Refusal;
+use field::{FiniteField, SymbolField};
+use packet::Packet;
+
+// The encoder's refusals, in the order of their numbers.
+fn check(m: usize, k: usize, l: usize, symbols: usize, places: usize) -> Result<(), Refusal>
+    ensures { result ≡ answered (encode_refusal m k l symbols places) tt }
+{
+    if k < 1 || l < k || m < l {
+        return Err(Refusal::Parameters);
+    }
+    if places < l {
+        return Err(Refusal::OutputShort);
+    }
+    if symbols != k {
+        return Err(Refusal::MessageLength);
+    }
+    Ok(())
+}
+
+// Writes the first ℓ places.
+fn write_packets<F: SymbolField>(l: usize, message: &[F], output: &mut [Packet<F>])
+    requires { (l ≤ F.SymbolField.m) × (l ≤ length output.old) }
+    ensures { output.new ≡ packets (alphabet F.Scalar.FiniteField F.FiniteField F.SymbolField) l message.now ++ drop l output.old }
+{
+    let q = F::q();
+    let mut code: u32 = 1;
+    for i in 0..l {
+        let Some(x) = F::from_code(code) else {
+            unreachable()
+        };
+        let y = evaluate::<F, AsSymbols>(message, x);
+        output[i] = Packet { x, y };
+        code *= q;
+    }
+}
+
+// The packets of a block: (b_i, f(b_i)) for i from 0 to ℓ − 1, to the first ℓ places of the output; later places stay.
+pub fn encode<F: SymbolField>(
+    k: usize,
+    l: usize,
+    message: &[F],
+    output: &mut [Packet<F>],
+) -> Result<(), Refusal>
+    ensures answer { result ≡ answered (encode_refusal F.SymbolField.m k l (length message.now) (length output.old)) tt }
+    ensures output { output.new ≡ encoded (alphabet F.Scalar.FiniteField F.FiniteField F.SymbolField) (encode_refusal F.SymbolField.m k l (length message.now) (length output.old)) l message.now output.old }
+    ensures codewords { result ≡ Ok tt → Each (Codeword (alphabet F.Scalar.FiniteField F.FiniteField F.SymbolField) l message.now) (take l output.new) }
+{
+    check(F::m(), k, l, message.len(), output.len())?;
+    write_packets(l, message, output);
+    Ok(())
+}
