@@ -101,7 +101,7 @@ fn places(rt: HostRuntime) -> Result<(), Fail> {
         return Err(Fail::new("no packet line"));
     };
     assert_eq!(rt; (number.place, header.place, payload.place), (14, 16, 19));
-    assert_eq!(rt; payload.text, b"FF");
+    assert_eq!(rt; payload.text, b"FF".as_slice());
     let Some(Line::Erased { place }) = reader.next() else {
         return Err(Fail::new("no erased slot"));
     };
