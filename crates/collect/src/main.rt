@@ -1,4 +1,6 @@
 // Reads a log from standard input, and prints its hand-over sheet.
+#![tactic(auto)]
+
 use portal_log::LIMIT;
 use sheet::sheet;
 use std::io;

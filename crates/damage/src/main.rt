@@ -1,5 +1,7 @@
 // Reads a log from standard input, and prints what a bad way leaves of it: of each number the first packet is lost, one packet of
 // another heading joins in, and a relay sends on sums.
+#![tactic(auto)]
+
 ghost use Rattle.std.specs.Prelude.{◌≡◌, [], ◌∷◌, IfOk};
 ghost use Rattle.field.specs.Alphabet.{alphabet};
 ghost use Rattle.feed.specs.Layers.{held, stirred, gapped, joined};

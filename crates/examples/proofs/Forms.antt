@@ -5,7 +5,7 @@
 use Rattle.std.proofs.Common.{◌≡◌, ℕ, suc, Bool, true, false, T, eqb, ltb, leb, List, [], ◌∷◌, map, length, eqb→eq, ltb→lt, leb→le}
 use Rattle.linear.specs.Field.{Field}
 use Rattle.linear.specs.Rows.{Rows, RowLaws}
-use Rattle.linear.specs.Span.{Each, combination, Span, IsDim}
+use Rattle.linear.specs.Span.{combination, Span, IsDim}
 use Rattle.linear.specs.Reduced.{Leads, ReducedForm}
 use Rattle.linear.proofs.Spans.{Within, within_nil, within_cons, within_same, from_span}
 use Rattle.linear.proofs.Stairs.{ZeroAt, Stairs, stairs_nil, stairs_cons}

@@ -1,4 +1,6 @@
 // Worked examples: computed from the definitions that the contracts cite, and tests of the calls.
+#![tactic(auto)]
+
 ghost use Rattle.examples.specs.Examples.{Worked};
 
 #[cfg(test)]

@@ -63,18 +63,23 @@ fn refused<T: Drop>(rt: &impl Abort, answer: Result<T, Refusal>, number: u8) -> 
     }
 }
 
-// Every call on these block numbers is refused with the same refusal.
+// Every call on these block numbers is refused with the same refusal; what is drained is `none`, which has no packets.
 fn all_refused<F: SymbolField>(
     rt: &impl Abort,
     session: &mut Session,
     rows: &mut [Packet<F>],
+    none: &[Packet<F>],
     blocks: &[u8],
     number: u8,
 ) -> Result<(), Fail> {
     for block in blocks {
         refused(rt, session.open(rows, *block), number)?;
         refused(rt, session.take(rows, *block, 0, 0), number)?;
-        refused(rt, session.drain(rows, *block, &mut Held::new(&[])), number)?;
+        refused(
+            rt,
+            session.drain(rows, *block, &mut Held::new(none)),
+            number,
+        )?;
         refused(rt, session.solve(rows, *block, &mut []), number)?;
         refused(rt, session.tally(rows, *block), number)?;
         refused(rt, session.close(rows, *block), number)?;

@@ -3,8 +3,8 @@
 --   entries_length    no more entries than bytes
 --   fed_short         what a feed has still to come is within a feed's limit
 -- Assumes nothing.
-use Rattle.std.specs.Prelude.{◌≡◌, ℕ, suc, ◌+◌, ◌≤◌, List, [], ◌∷◌, ◌++◌, map, length, drop, Some, None, Option, nat_lt, refl}
-use Rattle.std.proofs.Common.{ap, ◌∙◌, arith, length-append, length-drop}
+use Rattle.std.specs.Prelude.{ℕ, ◌≤◌, List, [], ◌∷◌, length, drop, Some, None, Option, nat_lt}
+use Rattle.std.proofs.Common.{◌∙◌, arith, length-append, length-drop}
 use Rattle.std.specs.Option.{option_to_list}
 use Rattle.std.proofs.lemmas.List.{length-map}
 use Rattle.std.proofs.lemmas.Bool.{cond_both, ltb-false}

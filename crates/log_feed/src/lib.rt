@@ -1,4 +1,6 @@
 // The log feed: gives out the packets of one block number in a log.
+#![tactic(auto)]
+
 ghost use Rattle.std.specs.Prelude.{◌≡◌};
 ghost use Rattle.std.specs.Result.{result_map_both};
 ghost use Rattle.field.specs.Alphabet.{alphabet};

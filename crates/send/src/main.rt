@@ -1,3 +1,5 @@
+#![tactic(auto)]
+
 // Reads a block sheet from standard input, and prints the log lines that a sender gives out for it.
 #[cfg(test)]
 mod tests;

@@ -1,15 +1,14 @@
 -- The calls on a number, one after another, by the plain machine.
-use Rattle.std.proofs.Common.{◌≡◌, ℕ, ◌+◌, ◌<◌, ◌≤◌, ◌≢◌, ◌⊎◌, List, [], ◌∷◌, ◌++◌, length, Ok, Err, Result, sym, refl, ap, ◌∙◌, subst, inl, inr, arith}
+use Rattle.std.proofs.Common.{◌≡◌, ℕ, ◌+◌, ◌<◌, ◌≢◌, List, length, Ok, Err, Result, sym, refl, ◌∙◌, subst, inl, inr, arith}
 use Rattle.field.specs.Alphabet.{Alphabet, Lawful}
 use Rattle.packet.specs.declared.Packet.{Packet}
 use Rattle.answer.specs.declared.refusal.Refusal.{Refusal}
 use Rattle.answer.specs.declared.Drained.{Drained}
 use Rattle.answer.specs.declared.Solved.{Solved}
-use Rattle.collector.specs.Machine.{shut, holds, Call, opened, drained, solved, Machine, Plain}
+use Rattle.collector.specs.Machine.{shut, opened, drained, solved, Machine, Plain}
 use Rattle.collector.specs.Runs.{State, Step, Represents}
-use Rattle.collector.specs.Laws.{PlainRun}
 use Rattle.collector.proofs.Runs.{step_follows, cell_apart}
-use Rattle.sheet.specs.Outcomes.{Outcome, taken, passed, rest_of, number_calls, NumberDone}
+use Rattle.sheet.specs.Outcomes.{taken, passed, rest_of, NumberDone}
 
 -- the packets of a feed are kept or passed over
 module _ {K S : Type 0} (A : Alphabet K S) where

@@ -1,5 +1,5 @@
 -- Erased slots and unreadable lines, counted line by line.
-use Rattle.std.proofs.Common.{◌≡◌, ℕ, ◌+◌, ◌≤◌, List, [], ◌∷◌, length, refl, ap, ◌∙◌, arith}
+use Rattle.std.proofs.Common.{◌≤◌, List, [], ◌∷◌, length, arith}
 use Rattle.portal_log.specs.Entries.{Entry, packet_at, erased_at, unreadable_at}
 use Rattle.sheet.specs.Sheets.{erased, unreadable}
 

@@ -1,15 +1,15 @@
 -- The numbers of a log done one after another: the plain machine's run, the lines and the totals grow together.
-use Rattle.std.proofs.Common.{◌≡◌, ℕ, ◌+◌, ◌*◌, ◌<◌, ◌≤◌, ◌≢◌, List, [], ◌∷◌, ◌++◌, length, drop, sym, refl, ap, ◌∙◌, subst, append_assoc, append-nil, arith, length-append}
+use Rattle.std.proofs.Common.{◌≡◌, ℕ, ◌+◌, ◌*◌, ◌≤◌, List, [], ◌∷◌, ◌++◌, length, sym, refl, ap, ◌∙◌, subst, append_assoc, append-nil, arith, length-append}
 use Rattle.linear.specs.Span.{Each}
 use Rattle.field.specs.Alphabet.{Alphabet}
 use Rattle.packet.specs.declared.Packet.{Packet}
 use Rattle.feed.specs.Feeds.{feed_limit}
-use Rattle.collector.specs.Machine.{shut, Call, Machine, Plain}
+use Rattle.collector.specs.Machine.{shut, Call, Machine}
 use Rattle.collector.specs.Runs.{State, Represents}
 use Rattle.collector.specs.Laws.{PlainRun}
 use Rattle.portal_log.specs.declared.name.FieldName.{FieldName}
 use Rattle.log_feed.specs.Numbered.{log_packets}
-use Rattle.sheet.specs.Outcomes.{Outcome, taken, passed, number_calls, calls_from, total_taken, total_passed, NumbersRun, Standing, NumberDone}
+use Rattle.sheet.specs.Outcomes.{Outcome, taken, passed, number_calls, calls_from, total_taken, total_passed, Standing, NumberDone}
 use Rattle.sheet.specs.Sheets.{number_line, lines_from, NumbersText}
 
 each_more : {X : Type 0} (P : X → Type 0) (xs : List X) (x : X) → Each P xs → P x → Each P (xs ++ x ∷ [])

@@ -14,7 +14,6 @@
 use Rattle.std.specs.Prelude.{◌≡◌, ℕ, ◌+◌, Bool, true, false, cond, List, [], ◌∷◌, ◌++◌, map, length, Some, None, Ok, Err, codes, decimal, Option, Result, ◌==◌, nat_lt}
 use Rattle.field.specs.Alphabet.{Alphabet}
 use Rattle.field.specs.Alphabets.{octet_alphabet, word_alphabet, nibble_alphabet}
-use Rattle.packet.specs.declared.Packet.{Packet}
 use Rattle.answer.specs.declared.refusal.Refusal.{Refusal}
 use Rattle.answer.specs.declared.refusal.Refusal.TheVariants.{Parameters, Rows, BlockNumber, AlreadyOpen, NotOpen, Header, Payload, ListFull, OutputShort, DimensionLow, DimensionHigh, NoneNear, MessageLength, LogLong, LineShape, DivisorZero}
 use Rattle.answer.specs.declared.Drained.{Drained}

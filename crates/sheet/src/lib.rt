@@ -1,4 +1,6 @@
 // The hand-over sheet of a log: which blocks came through, and what was lost on the way.
+#![tactic(auto)]
+
 ghost use Rattle.std.specs.Prelude.{◌≡◌, ◌≤◌, length, IfOk, Some, vec_len, string_bytes};
 ghost use Rattle.field.specs.Alphabet.{alphabet};
 ghost use Rattle.subspace_code.specs.Encoding.{fits};

@@ -49,13 +49,14 @@ fn reduced_forms(rt: HostRuntime) -> Result<(), Fail> {
 fn dirtied<F: SymbolField>(
     rt: &impl Abort,
     rows: &mut [Packet<F>],
+    none: &[Packet<F>],
     packets: &[(u32, u32)],
     dirt: &[&[(u32, u32)]],
 ) -> Result<(), Fail> {
     for codes in dirt {
         let mut session = taken(3, rows, packets)?;
         write(rows, codes)?;
-        all_refused(rt, &mut session, rows, &[0], 2)?;
+        all_refused(rt, &mut session, rows, none, &[0], 2)?;
     }
     Ok(())
 }
@@ -73,6 +74,7 @@ fn dirty_rows(rt: HostRuntime) -> Result<(), Fail> {
     dirtied(
         &rt,
         &mut [Packet::<Octet>::zero(); 88],
+        &[],
         &[(1, 2), (2, 4)],
         &dirt,
     )?;
@@ -80,6 +82,7 @@ fn dirty_rows(rt: HostRuntime) -> Result<(), Fail> {
     dirtied(
         &rt,
         &mut [Packet::<Nibble>::zero(); 80],
+        &[],
         &[(1, 2)],
         &[&[(2, 4)]],
     )
@@ -90,7 +93,7 @@ fn dirty_rows_of_a_shut_number(rt: HostRuntime) -> Result<(), Fail> {
     let mut rows = [Packet::<Octet>::zero(); 88];
     let mut session = Session::start(1, 3, &mut rows)?;
     rows[21] = packet(0, 1)?;
-    all_refused(&rt, &mut session, &mut rows, &[1], 2)?;
+    all_refused(&rt, &mut session, &mut rows, &[], &[1], 2)?;
     // another number's rows do not matter
     session.open(&rows, 2)?;
     session.take(&mut rows, 2, 1, 2)?;
@@ -104,8 +107,8 @@ fn too_few_rows(rt: HostRuntime) -> Result<(), Fail> {
     let mut rows = [Packet::<Octet>::zero(); 88];
     refused(&rt, Session::start(1, 3, &mut few), 2)?;
     let mut session = Session::start(1, 3, &mut rows)?;
-    all_refused(&rt, &mut session, &mut few, &[0, 8, 255], 2)?;
-    all_refused(&rt, &mut session, &mut rows, &[8, 255], 3)?;
+    all_refused(&rt, &mut session, &mut few, &[], &[0, 8, 255], 2)?;
+    all_refused(&rt, &mut session, &mut rows, &[], &[8, 255], 3)?;
     Ok(session.open(&rows, 0)?)
 }
 
@@ -128,9 +131,9 @@ fn rows_of_another_field(rt: HostRuntime) -> Result<(), Fail> {
     let mut few = [Packet::<Octet>::zero(); 87];
     let mut rows = [Packet::<Octet>::zero(); 88];
     let mut wide = Session::start(1, 12, &mut words)?;
-    all_refused(&rt, &mut wide, &mut rows, &[0], 1)?;
+    all_refused(&rt, &mut wide, &mut rows, &[], &[0], 1)?;
     let mut session = Session::start(1, 3, &mut words)?;
-    all_refused(&rt, &mut session, &mut few, &[0], 2)?;
+    all_refused(&rt, &mut session, &mut few, &[], &[0], 2)?;
     session.open(&rows, 0)?;
     session.take(&mut rows, 0, 7, 14)?;
     refused(&rt, session.take(&mut rows, 0, 8, 0), 6)?;

@@ -1,4 +1,4 @@
-use Rattle.std.proofs.Common.{◌≡◌, sym, ◌∙◌, arith, Fits-lit}
+use Rattle.std.proofs.Common.{sym, ◌∙◌, arith, Fits-lit}
 use mir.Facts.{Fits-lt}
 use Rattle.sheet.proofs.Starts.{fits_allowed}
 use Rattle.sheet.proofs.sheet_in.Goals as goal

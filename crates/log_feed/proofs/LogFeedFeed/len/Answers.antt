@@ -1,4 +1,4 @@
-use Rattle.std.proofs.Common.{◌≡◌, suc, ◌≤◌, length, sym, ap, ◌∙◌, arith, Fits-lit}
+use Rattle.std.proofs.Common.{◌≡◌, suc, length, sym, ap, ◌∙◌, arith, Fits-lit}
 use mir.Facts.{Fits-lt}
 use Rattle.field.proofs.Members.{alphabet}
 use Rattle.portal_log.specs.Readers.{left_entries}

@@ -1,4 +1,4 @@
-use Rattle.std.proofs.Common.{◌≡◌, ◌+◌, ◌≤◌, length, Ok, Err, sym, refl, ap, ◌∙◌, subst, arith}
+use Rattle.std.proofs.Common.{◌≡◌, refl, subst, arith}
 use Rattle.field.specs.Alphabet.{Alphabet, Lawful}
 use Rattle.field.proofs.Members.{alphabet}
 use Rattle.collector.specs.Runs.{State}

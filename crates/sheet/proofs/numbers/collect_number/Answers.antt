@@ -1,13 +1,11 @@
-use Rattle.std.proofs.Common.{◌≡◌, List, length, None, Ok, Err, Result, sym, refl, ap, ◌∙◌, subst}
-use Rattle.field.specs.Alphabet.{Alphabet}
+use Rattle.std.proofs.Common.{◌≡◌, List, length, Ok, Result, ap, ◌∙◌, subst}
 use Rattle.field.proofs.Members.{alphabet}
 use Rattle.packet.specs.declared.Packet.{Packet}
 use Rattle.answer.specs.declared.refusal.Refusal.{Refusal}
 use Rattle.answer.specs.Refusals.{answered}
 use Rattle.collector.specs.Runs.{State}
-use Rattle.log_feed.specs.Numbered.{log_packets, fed, feed_refusal}
+use Rattle.log_feed.specs.Numbered.{log_packets, fed}
 use Rattle.sheet.specs.Outcomes.{Outcome, passed, NumberDone}
-use Rattle.sheet.proofs.numbers.collect_number.Given as given
 use Rattle.sheet.proofs.numbers.collect_number.Goals as goal
 
 ok_same : {X : Type 0} {x y : X} → ◌≡◌ {A = Result X Refusal} (Ok x) (Ok y) → x ≡ y

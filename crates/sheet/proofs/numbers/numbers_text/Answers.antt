@@ -1,10 +1,10 @@
-use Rattle.std.proofs.Common.{◌≡◌, ℕ, ◌+◌, ◌<◌, ◌≤◌, List, [], ◌++◌, length, string_bytes, sym, refl, ap, ◌∙◌, subst, arith}
+use Rattle.std.proofs.Common.{◌≡◌, ℕ, ◌+◌, List, [], ◌++◌, length, string_bytes, sym, refl, ap, ◌∙◌, subst, arith}
 use Rattle.std.proofs.lemmas.Slice.{pushed}
 use Rattle.field.specs.Alphabet.{Alphabet}
 use Rattle.field.proofs.Members.{alphabet}
 use Rattle.collector.specs.Runs.{State}
 use Rattle.sheet.specs.Outcomes.{Outcome}
-use Rattle.sheet.specs.Sheets.{number_line, NumbersText}
+use Rattle.sheet.specs.Sheets.{NumbersText}
 use Rattle.sheet.proofs.Progress.{Progress, progress_start, progress_stands, progress_more, progress_end}
 use Rattle.sheet.proofs.Starts.{start_not_refused}
 use Rattle.sheet.proofs.numbers.numbers_text.Given as given

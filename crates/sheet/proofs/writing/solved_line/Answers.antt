@@ -1,4 +1,4 @@
-use Rattle.std.proofs.Common.{◌≡◌, decimal, sym, refl, ap, ◌∙◌, append_assoc}
+use Rattle.std.proofs.Common.{decimal, ◌∙◌, append_assoc}
 use Rattle.portal_log.specs.Numbers.{hex}
 use Rattle.portal_log.specs.Names.{digits}
 use Rattle.sheet.proofs.Lines.{line_map}
