@@ -5,6 +5,7 @@
 --   Reduces           the reduced form of what packets span
 --   Gives, Refuses    what the plain machine's solve answers on a number that holds packets
 --   Worked            what the definitions give on the examples
+--   WorkedSolving     what the plain machine's solve answers on the examples
 -- Assumes nothing.
 use Rattle.std.specs.Prelude.{◌≡◌, ℕ, ◌≤◌, List, [], ◌∷◌, ◌++◌, map, length, drop, Ok, Err}
 use Rattle.linear.specs.Span.{Span}
@@ -65,6 +66,8 @@ pub record Worked : Type 0 where
   pub nibble_raise : Raise nibble_alphabet 0x0000010 0x0010100
   pub octet_packets : Sent octet_alphabet 3 (1 ∷ 1 ∷ []) ((1, 0) ∷ (2, 6) ∷ (4, 0x14) ∷ [])
   pub octet_division : Quotient octet_alphabet (0x00 ∷ 0x9a ∷ []) (0x00 ∷ 0x01 ∷ []) (0x80 ∷ []) [] 1 0
+
+pub record WorkedSolving : Type 0 where
   pub nothing_taken : Refuses octet_alphabet 1 3 [] (DimensionLow 0)
   pub one_taken : Gives octet_alphabet 1 3 ((0x01, 0x02) ∷ []) (0x02 ∷ []) (record { dimension = 1; lost = 2; foreign = 0; faults = 2 })
   -- no message of one symbol is near

@@ -39,7 +39,7 @@ line_parts (c ∷ cs) =
     (λ t. line_skip (parts cs) (parts_some cs) ∙ ap (λ b. b ∷ line (parts cs)) (sym (eqb-true c comma t)) ∙ ap (λ l. c ∷ l) (line_parts cs))
     (λ _. line_onto c (parts cs) (parts_some cs) ∙ ap (λ l. c ∷ l) (line_parts cs))
 
-four_are : {X : Type 0} (ps : List X) (p : X × X × X × X) → Some p ≡ four ps → ps ≡ p.0 ∷ p.1 ∷ p.2 ∷ p.3 ∷ []
+four_are : (ps : List (List ℕ)) (p : List ℕ × List ℕ × List ℕ × List ℕ) → Some p ≡ four ps → ps ≡ p.0 ∷ p.1 ∷ p.2 ∷ p.3 ∷ []
 four_are [] p e = let z : ◌≡◌ {A = ℕ} 0 1 = cc in absurd (let y : ⊥ = omega arith in y)
 four_are (a ∷ []) p e = let z : ◌≡◌ {A = ℕ} 0 1 = cc in absurd (let y : ⊥ = omega arith in y)
 four_are (a ∷ b ∷ []) p e = let z : ◌≡◌ {A = ℕ} 0 1 = cc in absurd (let y : ⊥ = omega arith in y)

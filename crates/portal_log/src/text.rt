@@ -81,7 +81,7 @@ impl<'a> Parts<'a> {
 impl<'a> Iterator for Parts<'a> {
     type Item = &'a [u8];
 
-    ghost next_gives = { λ s r t. Gives (λ x. x.now) (left_parts s) r (left_parts t) };
+    ghost next_gives = { λ s r t. Gives (left_parts s) r (left_parts t) };
 
     ghost remaining = { λ s. at_most (length (left_parts s)) };
 

@@ -48,24 +48,28 @@ unfolding nothing one two three one_residual five two_residuals six computing wo
 returns c =
     let octets = map octet_alphabet.element in
     record {
-      octet_product = refl;
-      octet_raise = refl;
-      word_product = refl;
-      nibble_product = refl;
-      nibble_raise = refl;
-      octet_packets = refl;
-      octet_division = record {
-        divided = divided_checked octets_lawful _ _ _ _ 2
-            (subst (λ n. 0 < n) (sym (counted_checked octets_lawful (octets (0x00 ∷ 0x01 ∷ [])) 1 (lit≤ tt) (lit< tt))) (lit< tt))
-            (lit≤ tt) (lit≤ tt) (lit≤ tt) (computed _ _ 2 tt);
-        quotient_counted = counted_checked octets_lawful (octets (0x80 ∷ [])) 0 (lit≤ tt) (lit< tt);
-        remainder_counted = refl;
+      worked = record {
+        octet_product = refl;
+        octet_raise = refl;
+        word_product = refl;
+        nibble_product = refl;
+        nibble_raise = refl;
+        octet_packets = refl;
+        octet_division = record {
+          divided = divided_checked octets_lawful _ _ _ _ 2
+              (subst (λ n. 0 < n) (sym (counted_checked octets_lawful (octets (0x00 ∷ 0x01 ∷ [])) 1 (lit≤ tt) (lit< tt))) (lit< tt))
+              (lit≤ tt) (lit≤ tt) (lit≤ tt) (computed _ _ 2 tt);
+          quotient_counted = counted_checked octets_lawful (octets (0x80 ∷ [])) 0 (lit≤ tt) (lit< tt);
+          remainder_counted = refl;
+        };
       };
-      nothing_taken = low octets_lawful [] nothing tt 1 3 (lit≤ tt) tt (lit< tt);
-      one_taken = gives octets_lawful ((0x01, 0x02) ∷ []) one tt 1 3 (lit≤ tt) tt (0x02 ∷ []) nothing tt refl (lit≤ tt);
-      none_near = none octets_lawful ((0x01, 0x02) ∷ (0x02, 0x05) ∷ []) two tt 1 3 (lit≤ tt) tt refl (lit< tt) (lit≤ tt) (lit≤ tt) tt;
-      one_foreign = gives octets_lawful ((0x01, 0x02) ∷ (0x02, 0x04) ∷ (0x04, 0x09) ∷ []) three tt 1 3 (lit≤ tt) tt (0x02 ∷ []) one_residual tt refl (lit≤ tt);
-      two_foreign = gives octets_lawful ((0x01, 0x02) ∷ (0x02, 0x04) ∷ (0x04, 0x08) ∷ (0x00, 0x01) ∷ (0x00, 0x02) ∷ []) five tt 1 3 (lit≤ tt) tt (0x02 ∷ []) two_residuals tt refl (lit≤ tt);
-      two_foreign_form = reduces octets_lawful ((0x01, 0x02) ∷ (0x02, 0x04) ∷ (0x04, 0x08) ∷ (0x00, 0x01) ∷ (0x00, 0x02) ∷ []) five tt;
-      three_foreign = high octets_lawful ((0x01, 0x02) ∷ (0x02, 0x04) ∷ (0x04, 0x08) ∷ (0x00, 0x01) ∷ (0x00, 0x02) ∷ (0x00, 0x04) ∷ []) six tt 1 3 (lit≤ tt) tt (lit≤ tt) (lit< tt);
+      solving = record {
+        nothing_taken = low octets_lawful [] nothing tt 1 3 (lit≤ tt) tt (lit< tt);
+        one_taken = gives octets_lawful ((0x01, 0x02) ∷ []) one tt 1 3 (lit≤ tt) tt (0x02 ∷ []) nothing tt refl (lit≤ tt);
+        none_near = none octets_lawful ((0x01, 0x02) ∷ (0x02, 0x05) ∷ []) two tt 1 3 (lit≤ tt) tt refl (lit< tt) (lit≤ tt) (lit≤ tt) tt;
+        one_foreign = gives octets_lawful ((0x01, 0x02) ∷ (0x02, 0x04) ∷ (0x04, 0x09) ∷ []) three tt 1 3 (lit≤ tt) tt (0x02 ∷ []) one_residual tt refl (lit≤ tt);
+        two_foreign = gives octets_lawful ((0x01, 0x02) ∷ (0x02, 0x04) ∷ (0x04, 0x08) ∷ (0x00, 0x01) ∷ (0x00, 0x02) ∷ []) five tt 1 3 (lit≤ tt) tt (0x02 ∷ []) two_residuals tt refl (lit≤ tt);
+        two_foreign_form = reduces octets_lawful ((0x01, 0x02) ∷ (0x02, 0x04) ∷ (0x04, 0x08) ∷ (0x00, 0x01) ∷ (0x00, 0x02) ∷ []) five tt;
+        three_foreign = high octets_lawful ((0x01, 0x02) ∷ (0x02, 0x04) ∷ (0x04, 0x08) ∷ (0x00, 0x01) ∷ (0x00, 0x02) ∷ (0x00, 0x04) ∷ []) six tt 1 3 (lit≤ tt) tt (lit≤ tt) (lit< tt);
+      };
     }
