@@ -5,7 +5,7 @@ pub mod headers;
 pub mod rows;
 
 // A header x and a payload y, symbols of one field.
-#[derive(Clone, Copy)]
+#[derive(Clone, Copy, PartialEq, Eq, Debug)]
 pub struct Packet<F> {
     pub x: F,
     pub y: F,
