@@ -17,6 +17,7 @@ pub(crate) trait ByCode: Copy {
 
     ghost product: { ℕ → ℕ → ℕ };
 
+    // the scalars of the field: the number of bits of a scalar's code, and of scalars in a code
     ghost scalar_bits: { ℕ };
 
     ghost scalars: { ℕ };
@@ -27,6 +28,7 @@ pub(crate) trait ByCode: Copy {
     fn of(n: u32) -> Self
         ensures { result ≡ coded.make n };
 
+    // The code.
     fn number(self) -> u32
         ensures { result ≡ coded.code self };
 
