@@ -11,14 +11,6 @@ use Rattle.binary.proofs.Tests.{below, computed}
 abbrev pub read : List (List ℕ) → ℕ → ℕ
 read rows i = get_or (get_or rows (i / 8) []) (i % 8) 0
 
--- the same, shut, so that a proof finds the table in the goal
-pub entry : List (List ℕ) → ℕ → ℕ
-entry = read
-
-pub entry_is : (rows : List (List ℕ)) (i : ℕ) → read rows i ≡ entry rows i
-unfolding entry
-entry_is rows i = refl
-
 -- k powers of 03 after one another, the first of them a
 unfoldable pub chain : ℕ → ℕ → List ℕ
 chain zero a = []
@@ -43,15 +35,13 @@ power_at i h = chain_at 256 1 i h ∙ sym (pow_iterate octet_product 3 i)
 abbrev pub powers_pass : List ℕ → List (List ℕ) → Bool
 powers_pass powers rows = below (λ i. eqb (read rows i) (get_or powers i 0)) 256
 
-pub powers_at : (rows : List (List ℕ)) → T (powers_pass (chain 256 1) rows) → (i : ℕ) → i < 256 → entry rows i ≡ pow octet_product 3 i
-unfolding entry
+pub powers_at : (rows : List (List ℕ)) → T (powers_pass (chain 256 1) rows) → (i : ℕ) → i < 256 → read rows i ≡ pow octet_product 3 i
 powers_at rows t i h = computed (read rows) (λ i. get_or (chain 256 1) i 0) 256 t i h ∙ power_at i h
 
 abbrev pub exponents_pass : List ℕ → List (List ℕ) → Bool
 exponents_pass powers rows = below (λ a. eqb (get_or powers (read rows (suc a)) 0) (suc a)) 255
 
-pub exponents_at : (rows : List (List ℕ)) → T (exponents_pass (chain 256 1) rows) → (a : ℕ) → 0 < a → a < 256 → pow octet_product 3 (entry rows a) ≡ a
-unfolding entry
+pub exponents_at : (rows : List (List ℕ)) → T (exponents_pass (chain 256 1) rows) → (a : ℕ) → 0 < a → a < 256 → pow octet_product 3 (read rows a) ≡ a
 exponents_at rows t zero p h = absurd (not-suc-le-zero p)
 exponents_at rows t (suc a) p h =
     let e : get_or (chain 256 1) (read rows (suc a)) 0 ≡ suc a = computed (λ a. get_or (chain 256 1) (read rows (suc a)) 0) suc 255 t a (omega arith) in

@@ -8,9 +8,9 @@ pub(crate) fn image(images: &[[u32; 4]], a: u32) -> u32
     ensures { result ≡ image_sum images.now a }
 {
     let mut sum = 0;
-    for i in 0..images.len() {
+    for (i, row) in images.iter().enumerate() {
         let digit = (a >> (2 * i)) & 3;
-        sum ^= images[i][digit as usize];
+        sum ^= row[digit as usize];
     }
     sum
 }

@@ -2,7 +2,9 @@
 #![tactic(auto)]
 
 pub mod bit;
+mod by_code;
 pub mod codes;
+mod coordinates;
 pub mod hex;
 mod images;
 pub mod nibble;

@@ -5,7 +5,7 @@ pub mod arithmetic;
 mod products;
 mod raise;
 
-#[derive(Clone, Copy)]
+#[derive(Clone, Copy, PartialEq, Eq, Debug)]
 pub struct Nibble {
     code: u32,
     ghost ok: { code < 2 ^ 28 },

@@ -4,7 +4,7 @@ ghost use Rattle.std.specs.Prelude.{◌^◌, ◌<◌};
 pub mod arithmetic;
 mod tables;
 
-#[derive(Clone, Copy)]
+#[derive(Clone, Copy, PartialEq, Eq, Debug)]
 pub struct Octet {
     code: u8,
     ghost ok: { code < 2 ^ 8 },

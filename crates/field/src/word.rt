@@ -5,7 +5,7 @@ pub mod arithmetic;
 mod products;
 mod squares;
 
-#[derive(Clone, Copy)]
+#[derive(Clone, Copy, PartialEq, Eq, Debug)]
 pub struct Word {
     code: u16,
     ghost ok: { code < 2 ^ 16 },

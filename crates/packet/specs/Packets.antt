@@ -1,11 +1,12 @@
--- Packets as rows: pairs of symbols with 2m coordinates, those of x first.
+-- Packets as rows: pairs of symbols with 2m coordinates, those of x first; and by the codes of their symbols.
 --   packet_zero       both symbols zero
 --   packet_sum        symbol by symbol
 --   packet_multiple   both symbols times a scalar
 --   packet_coord      the coordinate at a place; zero from 2m on
 --   packet_rows       packets as a kind of row
+--   packet_of_codes   the packet of two codes, absent where one is from the field's size on
 -- Assumes nothing.
-use Rattle.std.specs.Prelude.{cond, ℕ, ◌+◌, ◌-◌, ltb}
+use Rattle.std.specs.Prelude.{cond, ℕ, ◌+◌, ◌-◌, ◌&&◌, ltb, Option, Some, None}
 use Rattle.linear.specs.Rows.{Rows}
 use Rattle.field.specs.Alphabet.{Alphabet}
 use Rattle.packet.specs.declared.Packet.{Packet}
@@ -25,3 +26,6 @@ module _ {K S : Type 0} (A : Alphabet K S) where
 
   abbrev pub packet_rows : Rows K (Packet S)
   packet_rows = record { width = A.m + A.m; none = packet_zero; plus = packet_sum; times = packet_multiple; coord = packet_coord }
+
+abbrev pub packet_of_codes : {S : Type 0} → ℕ → (ℕ → S) → ℕ → ℕ → Option (Packet S)
+packet_of_codes size element x y = cond (ltb x size && ltb y size) (Some (record { x = element x; y = element y })) None

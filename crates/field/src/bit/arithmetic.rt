@@ -1,64 +1,46 @@
 // The arithmetic of bits.
-ghost use Rattle.std.specs.Prelude.{◌≡◌, ◌^◌};
-ghost use Rattle.field.specs.Bit.{bits, bit_field};
-ghost use Rattle.binary.proofs.Lift.{field_by_codes};
+ghost use Rattle.std.specs.Prelude.{◌≡◌};
+ghost use Rattle.binary.specs.Products.{bit_product};
+ghost use Rattle.field.specs.Bit.{bits};
 ghost use Rattle.binary.proofs.Polynomials.{bits_binary};
-ghost use Rattle.field.specs.Elements;
+ghost use Rattle.std.proofs.Common.{lit<};
 
 use super::Bit;
-use crate::FiniteField;
+use crate::by_code::ByCode;
 
-impl Bit {
-    // The bit whose code is n modulo 2.
-    pub(crate) fn of(n: u32) -> Bit
-        ensures { result ≡ bits.make n }
-    {
+impl ByCode for Bit {
+    const BITS: u32 = 1;
+
+    ghost BITS = { 1 };
+
+    ghost coded = { bits };
+
+    ghost product = { bit_product };
+
+    ghost scalar_bits = { 1 };
+
+    ghost scalars = { 1 };
+
+    ghost binary = { bits_binary };
+
+    ghost few = { lit< tt };
+
+    fn of(n: u32) -> Bit {
         Bit {
             code: (n & 1) as u8,
         }
     }
-}
 
-impl FiniteField for Bit {
-    ghost field = { bit_field };
-
-    ghost size = { 2 ^ 1 };
-
-    ghost code = { bits.code };
-
-    ghost element = { bits.make };
-
-    ghost codes = { Elements.codes (field_by_codes bits bits_binary) };
-
-    fn zero() -> Bit {
-        Bit::of(0)
-    }
-
-    fn one() -> Bit {
-        Bit::of(1)
-    }
-
-    fn plus(self, other: Bit) -> Bit {
-        Bit::of((self.code ^ other.code) as u32)
-    }
-
-    fn negative(self) -> Bit {
-        self // since x + x is zero
-    }
-
-    fn times(self, other: Bit) -> Bit {
-        Bit::of((self.code & other.code) as u32)
-    }
-
-    fn inverse(self) -> Option<Bit> {
-        if self.code == 0 { None } else { Some(self) }
-    }
-
-    fn code(self) -> u32 {
+    fn number(self) -> u32 {
         self.code as u32
     }
 
-    fn from_code(n: u32) -> Option<Bit> {
-        if n < 2 { Some(Bit::of(n)) } else { None }
+    fn product(self, other: Bit) -> Bit {
+        Bit::of((self.code & other.code) as u32)
+    }
+
+    // The only other bit is one.
+    fn reciprocal(self) -> Bit {
+        self
     }
 }

@@ -1,13 +1,13 @@
 // The arithmetic of hex digits: polynomials over the bits modulo x ^ 4 + x + 1.
 ghost use Rattle.std.specs.Prelude.{◌≡◌, ◌^◌, ◌<◌, ◌≢◌};
 ghost use Rattle.binary.specs.Products.{hex_product};
-ghost use Rattle.field.specs.HexDigit.{hex_digits, hex_field};
-ghost use Rattle.binary.proofs.Lift.{field_by_codes};
+ghost use Rattle.field.specs.HexDigit.{hex_digits};
 ghost use Rattle.binary.proofs.Polynomials.{hex_digits_binary};
-ghost use Rattle.field.specs.Elements;
+ghost use Rattle.std.proofs.Common.{lit<};
 
 use super::HexDigit;
-use crate::{FiniteField, polynomials};
+use crate::by_code::ByCode;
+use crate::polynomials;
 
 // x ^ 4, which is x + 1.
 const TAIL: u32 = 0x3;
@@ -33,61 +33,42 @@ pub(crate) fn reciprocal(a: u8) -> u8
     product(seventh, seventh)
 }
 
-impl HexDigit {
-    // The hex digit whose code is n modulo 16.
-    pub(crate) fn of(n: u32) -> HexDigit
-        ensures { result ≡ hex_digits.make n }
-    {
+impl ByCode for HexDigit {
+    const BITS: u32 = 4;
+
+    ghost BITS = { 4 };
+
+    ghost coded = { hex_digits };
+
+    ghost product = { hex_product };
+
+    ghost scalar_bits = { 1 };
+
+    ghost scalars = { 4 };
+
+    ghost binary = { hex_digits_binary };
+
+    ghost few = { lit< tt };
+
+    fn of(n: u32) -> HexDigit {
         HexDigit {
             code: (n & 15) as u8,
         }
     }
-}
 
-impl FiniteField for HexDigit {
-    ghost field = { hex_field };
-
-    ghost size = { 2 ^ 4 };
-
-    ghost code = { hex_digits.code };
-
-    ghost element = { hex_digits.make };
-
-    ghost codes = { Elements.codes (field_by_codes hex_digits hex_digits_binary) };
-
-    fn zero() -> HexDigit {
-        HexDigit::of(0)
-    }
-
-    fn one() -> HexDigit {
-        HexDigit::of(1)
-    }
-
-    fn plus(self, other: HexDigit) -> HexDigit {
-        HexDigit::of(self.code() ^ other.code())
-    }
-
-    fn negative(self) -> HexDigit {
-        self // since x + x is zero
-    }
-
-    fn times(self, other: HexDigit) -> HexDigit {
-        HexDigit::of(product(self.code, other.code) as u32)
-    }
-
-    fn inverse(self) -> Option<HexDigit> {
-        if self.code == 0 {
-            None
-        } else {
-            Some(HexDigit::of(reciprocal(self.code) as u32))
-        }
-    }
-
-    fn code(self) -> u32 {
+    fn number(self) -> u32 {
         self.code as u32
     }
 
-    fn from_code(n: u32) -> Option<HexDigit> {
-        if n < 16 { Some(HexDigit::of(n)) } else { None }
+    fn product(self, other: HexDigit) -> HexDigit {
+        HexDigit {
+            code: product(self.code, other.code),
+        }
+    }
+
+    fn reciprocal(self) -> HexDigit {
+        HexDigit {
+            code: reciprocal(self.code),
+        }
     }
 }

@@ -1,81 +1,59 @@
 // The arithmetic of nibbles.
-ghost use Rattle.std.specs.Prelude.{◌≡◌, ◌^◌};
+ghost use Rattle.std.specs.Prelude.{◌^◌};
 ghost use Rattle.binary.specs.Products.{nibble_product};
-ghost use Rattle.field.specs.HexDigit.{hex_digits};
-ghost use Rattle.field.specs.Nibble.{nibbles, nibble_field};
-ghost use Rattle.field.specs.Symbols.{embedding, coordinate, raised};
 ghost use Rattle.binary.proofs.Lift.{field_by_codes};
 ghost use Rattle.binary.proofs.Nibbles.{nibbles_binary, hex_digits_agree};
-ghost use Rattle.field.specs.Elements;
-ghost use Rattle.std.proofs.Common.{lit≤};
 ghost use Rattle.binary.proofs.Polynomials.{hex_digits_binary};
+ghost use Rattle.field.specs.HexDigit.{hex_digits};
+ghost use Rattle.field.specs.Nibble.{nibbles};
+ghost use Rattle.field.specs.Symbols.{embedding, coordinate, raised};
 ghost use Rattle.field.specs.Extensions;
+ghost use Rattle.std.proofs.Common.{lit<, lit≤};
 
 use super::Nibble;
 use super::products::{product, reciprocal};
 use super::raise::raise;
+use crate::SymbolField;
+use crate::by_code::ByCode;
+use crate::coordinates::digit;
 use crate::hex::HexDigit;
-use crate::{FiniteField, SymbolField};
 
-impl Nibble {
-    // The nibble whose code is n modulo 2 ^ 28.
-    fn of(n: u32) -> Nibble
-        ensures { result ≡ nibbles.make n }
-    {
+impl ByCode for Nibble {
+    const BITS: u32 = 28;
+
+    ghost BITS = { 28 };
+
+    ghost coded = { nibbles };
+
+    ghost product = { nibble_product };
+
+    ghost scalar_bits = { 4 };
+
+    ghost scalars = { 7 };
+
+    ghost binary = { nibbles_binary };
+
+    ghost few = { lit< tt };
+
+    fn of(n: u32) -> Nibble {
         Nibble {
             code: n & 0xfff_ffff,
         }
     }
-}
 
-impl FiniteField for Nibble {
-    ghost field = { nibble_field };
-
-    ghost size = { 2 ^ 28 };
-
-    ghost code = { nibbles.code };
-
-    ghost element = { nibbles.make };
-
-    ghost codes = { Elements.codes (field_by_codes nibbles nibbles_binary) };
-
-    fn zero() -> Nibble {
-        Nibble::of(0)
-    }
-
-    fn one() -> Nibble {
-        Nibble::of(1)
-    }
-
-    fn plus(self, other: Nibble) -> Nibble {
-        Nibble::of(self.code ^ other.code)
-    }
-
-    fn negative(self) -> Nibble {
-        self // since x + x is zero
-    }
-
-    fn times(self, other: Nibble) -> Nibble {
-        Nibble::of(product(self.code, other.code))
-    }
-
-    fn inverse(self) -> Option<Nibble> {
-        if self.code == 0 {
-            None
-        } else {
-            Some(Nibble::of(reciprocal(self.code)))
-        }
-    }
-
-    fn code(self) -> u32 {
+    fn number(self) -> u32 {
         self.code
     }
 
-    fn from_code(n: u32) -> Option<Nibble> {
-        if n < 0x1000_0000 {
-            Some(Nibble::of(n))
-        } else {
-            None
+    fn product(self, other: Nibble) -> Nibble {
+        Nibble {
+            code: product(self.code, other.code),
+        }
+    }
+
+    fn reciprocal(self) -> Nibble {
+        Nibble {
+            code: reciprocal(self.code),
         }
     }
 }
@@ -109,18 +87,16 @@ impl SymbolField for Nibble {
     }
 
     fn raise(self) -> Nibble {
-        Nibble::of(raise(self.code))
-    }
-
-    fn coordinate(self, i: usize) -> HexDigit {
-        if i < Self::DEGREE {
-            HexDigit::of(self.code >> (4 * i))
-        } else {
-            HexDigit::zero()
+        Nibble {
+            code: raise(self.code),
         }
     }
 
+    fn coordinate(self, i: usize) -> HexDigit {
+        digit(self, Self::DEGREE, i)
+    }
+
     fn from_scalar(s: HexDigit) -> Nibble {
-        Nibble::of(s.code())
+        Nibble::of(s.number())
     }
 }

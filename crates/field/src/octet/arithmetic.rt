@@ -1,19 +1,20 @@
 // The arithmetic of octets: products and inverses by the tables of the powers of 03.
-ghost use Rattle.std.specs.Prelude.{◌≡◌, ◌^◌, ◌≢◌};
+ghost use Rattle.std.specs.Prelude.{◌≡◌, ◌≢◌, ◌^◌};
 ghost use Rattle.binary.specs.Products.{octet_product};
-ghost use Rattle.field.specs.Bit.{bits};
-ghost use Rattle.field.specs.Octet.{octets, octet_field};
-ghost use Rattle.field.specs.Symbols.{embedding, coordinate, raised};
 ghost use Rattle.binary.proofs.Lift.{field_by_codes};
 ghost use Rattle.binary.proofs.Polynomials.{octets_binary, bits_binary};
-ghost use Rattle.field.specs.Elements;
-ghost use Rattle.std.proofs.Common.{lit≤};
 ghost use Rattle.binary.proofs.Tests.{computed₂, computing};
+ghost use Rattle.field.specs.Bit.{bits};
+ghost use Rattle.field.specs.Octet.{octets};
+ghost use Rattle.field.specs.Symbols.{embedding, coordinate, raised};
 ghost use Rattle.field.specs.Extensions;
+ghost use Rattle.std.proofs.Common.{lit<, lit≤};
 
 use super::Octet;
 use super::tables::{exponent, power_of_three};
 use crate::bit::Bit;
+use crate::by_code::ByCode;
+use crate::coordinates::digit;
 use crate::{FiniteField, SymbolField};
 
 // The exponents of two octets add up, modulo 255.
@@ -36,63 +37,42 @@ fn reciprocal(a: u8) -> u8
     power_of_three(255 - exponent(a))
 }
 
-impl Octet {
-    // The octet whose code is n.
-    fn of(n: u8) -> Octet
-        ensures { result ≡ octets.make n }
-    {
-        Octet { code: n }
-    }
-}
+impl ByCode for Octet {
+    const BITS: u32 = 8;
 
-impl FiniteField for Octet {
-    ghost field = { octet_field };
+    ghost BITS = { 8 };
 
-    ghost size = { 2 ^ 8 };
+    ghost coded = { octets };
 
-    ghost code = { octets.code };
+    ghost product = { octet_product };
 
-    ghost element = { octets.make };
+    ghost scalar_bits = { 1 };
 
-    ghost codes = { Elements.codes (field_by_codes octets octets_binary) };
+    ghost scalars = { 8 };
 
-    fn zero() -> Octet {
-        Octet::of(0)
-    }
+    ghost binary = { octets_binary };
 
-    fn one() -> Octet {
-        Octet::of(1)
-    }
+    ghost few = { lit< tt };
 
-    fn plus(self, other: Octet) -> Octet {
-        Octet::of(self.code ^ other.code)
-    }
-
-    fn negative(self) -> Octet {
-        self // since x + x is zero
-    }
-
-    fn times(self, other: Octet) -> Octet {
-        Octet::of(product(self.code, other.code))
-    }
-
-    fn inverse(self) -> Option<Octet> {
-        if self.code == 0 {
-            None
-        } else {
-            Some(Octet::of(reciprocal(self.code)))
+    fn of(n: u32) -> Octet {
+        Octet {
+            code: (n & 0xff) as u8,
         }
     }
 
-    fn code(self) -> u32 {
+    fn number(self) -> u32 {
         self.code as u32
     }
 
-    fn from_code(n: u32) -> Option<Octet> {
-        if n < 256 {
-            Some(Octet::of(n as u8))
-        } else {
-            None
+    fn product(self, other: Octet) -> Octet {
+        Octet {
+            code: product(self.code, other.code),
+        }
+    }
+
+    fn reciprocal(self) -> Octet {
+        Octet {
+            code: reciprocal(self.code),
         }
     }
 }
@@ -131,14 +111,10 @@ impl SymbolField for Octet {
     }
 
     fn coordinate(self, i: usize) -> Bit {
-        if i < Self::DEGREE {
-            Bit::of((self.code >> i) as u32)
-        } else {
-            Bit::zero()
-        }
+        digit(self, Self::DEGREE, i)
     }
 
     fn from_scalar(s: Bit) -> Octet {
-        Octet::of(s.code() as u8)
+        Octet::of(s.number())
     }
 }

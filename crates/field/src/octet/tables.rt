@@ -1,5 +1,5 @@
 // The powers of 03 in the octets, and their exponents: two tables, eight entries in a row.
-ghost use Rattle.std.specs.Prelude.{◌≡◌, ◌<◌};
+ghost use Rattle.std.specs.Prelude.{◌≡◌, ◌/◌, ◌%◌, ◌<◌, [], slice_index, slice_index_or};
 ghost use Rattle.binary.specs.Codes.{pow};
 ghost use Rattle.binary.specs.Products.{octet_product};
 
@@ -75,11 +75,18 @@ const EXPONENTS: [[u8; 8]; 32] = [
     [0x0d, 0x63, 0x8c, 0x80, 0xc0, 0xf7, 0x70, 0x07],
 ];
 
+// The entry at the place i.
+fn entry(table: &[[u8; 8]; 32], i: u8) -> u8
+    ensures { result ≡ slice_index (slice_index_or table.now (i / 8) []) (i % 8) }
+{
+    table[(i / 8) as usize][(i % 8) as usize]
+}
+
 // 03 to the power i.
 pub(super) fn power_of_three(i: u8) -> u8
     ensures { result ≡ pow octet_product 3 i }
 {
-    POWERS[(i / 8) as usize][(i % 8) as usize]
+    entry(&POWERS, i)
 }
 
 // An exponent at which the power of 03 is a.
@@ -87,5 +94,5 @@ pub(super) fn exponent(a: u8) -> u8
     requires { 0 < a }
     ensures { pow octet_product 3 result ≡ a }
 {
-    EXPONENTS[(a / 8) as usize][(a % 8) as usize]
+    entry(&EXPONENTS, a)
 }

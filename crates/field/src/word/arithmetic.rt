@@ -1,79 +1,59 @@
 // The arithmetic of words.
-ghost use Rattle.std.specs.Prelude.{◌≡◌, ◌^◌};
+ghost use Rattle.std.specs.Prelude.{◌^◌};
 ghost use Rattle.binary.specs.Products.{word_product};
-ghost use Rattle.field.specs.Bit.{bits};
-ghost use Rattle.field.specs.Word.{words, word_field};
-ghost use Rattle.field.specs.Symbols.{embedding, coordinate, raised};
 ghost use Rattle.binary.proofs.Lift.{field_by_codes};
 ghost use Rattle.binary.proofs.Polynomials.{words_binary, bits_binary};
-ghost use Rattle.field.specs.Elements;
-ghost use Rattle.std.proofs.Common.{lit≤};
 ghost use Rattle.binary.proofs.Tests.{computed₂, computing};
+ghost use Rattle.field.specs.Bit.{bits};
+ghost use Rattle.field.specs.Word.{words};
+ghost use Rattle.field.specs.Symbols.{embedding, coordinate, raised};
 ghost use Rattle.field.specs.Extensions;
+ghost use Rattle.std.proofs.Common.{lit<, lit≤};
 
 use super::Word;
 use super::products::{product, reciprocal};
 use super::squares::square;
+use crate::SymbolField;
 use crate::bit::Bit;
-use crate::{FiniteField, SymbolField};
+use crate::by_code::ByCode;
+use crate::coordinates::digit;
 
-impl Word {
-    // The word whose code is n.
-    fn of(n: u16) -> Word
-        ensures { result ≡ words.make n }
-    {
-        Word { code: n }
-    }
-}
+impl ByCode for Word {
+    const BITS: u32 = 16;
 
-impl FiniteField for Word {
-    ghost field = { word_field };
+    ghost BITS = { 16 };
 
-    ghost size = { 2 ^ 16 };
+    ghost coded = { words };
 
-    ghost code = { words.code };
+    ghost product = { word_product };
 
-    ghost element = { words.make };
+    ghost scalar_bits = { 1 };
 
-    ghost codes = { Elements.codes (field_by_codes words words_binary) };
+    ghost scalars = { 16 };
 
-    fn zero() -> Word {
-        Word::of(0)
-    }
+    ghost binary = { words_binary };
 
-    fn one() -> Word {
-        Word::of(1)
-    }
+    ghost few = { lit< tt };
 
-    fn plus(self, other: Word) -> Word {
-        Word::of(self.code ^ other.code)
-    }
-
-    fn negative(self) -> Word {
-        self // since x + x is zero
-    }
-
-    fn times(self, other: Word) -> Word {
-        Word::of(product(self.code, other.code))
-    }
-
-    fn inverse(self) -> Option<Word> {
-        if self.code == 0 {
-            None
-        } else {
-            Some(Word::of(reciprocal(self.code)))
+    fn of(n: u32) -> Word {
+        Word {
+            code: (n & 0xffff) as u16,
         }
     }
 
-    fn code(self) -> u32 {
+    fn number(self) -> u32 {
         self.code as u32
     }
 
-    fn from_code(n: u32) -> Option<Word> {
-        if n < 65536 {
-            Some(Word::of(n as u16))
-        } else {
-            None
+    fn product(self, other: Word) -> Word {
+        Word {
+            code: product(self.code, other.code),
+        }
+    }
+
+    fn reciprocal(self) -> Word {
+        Word {
+            code: reciprocal(self.code),
         }
     }
 }
@@ -108,18 +88,16 @@ impl SymbolField for Word {
     }
 
     fn raise(self) -> Word {
-        Word::of(square(self.code))
-    }
-
-    fn coordinate(self, i: usize) -> Bit {
-        if i < Self::DEGREE {
-            Bit::of((self.code >> i) as u32)
-        } else {
-            Bit::zero()
+        Word {
+            code: square(self.code),
         }
     }
 
+    fn coordinate(self, i: usize) -> Bit {
+        digit(self, Self::DEGREE, i)
+    }
+
     fn from_scalar(s: Bit) -> Word {
-        Word::of(s.code() as u16)
+        Word::of(s.number())
     }
 }

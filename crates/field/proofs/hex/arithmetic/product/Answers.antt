@@ -2,6 +2,6 @@
 use Rattle.binary.specs.Products.{hex_product}
 use Rattle.field.proofs.hex.arithmetic.product.Goals as goal
 
-pub returns : goal.returns
+pub returns-clause-value : goal.returns-clause-value
 unfolding hex_product
-returns c = record { within = c.product.ensures.within; value = c.product.ensures.value }
+returns-clause-value c = c.product.ensures.value

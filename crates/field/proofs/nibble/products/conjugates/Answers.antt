@@ -4,8 +4,8 @@ use Rattle.binary.proofs.Nibbles.{nibbles_binary}
 use Rattle.binary.proofs.Powers.{pow_one, power_product, power_raise}
 use Rattle.field.proofs.nibble.products.conjugates.Goals as goal
 
-pub returns : goal.returns
-returns c =
+pub returns-clause-value : goal.returns-clause-value
+returns-clause-value c =
     let R = nibbles_binary.ring in
     let a = c.args.a in
     let h = c.requires in
@@ -15,4 +15,4 @@ returns c =
     let once = c.raise-3.ensures.value ∙ power_raise R a h _ 4 0x1110 three in
     let twice = c.raise-4.ensures.value ∙ power_raise R a h _ 4 0x11100 once in
     let thrice = c.raise-5.ensures.value ∙ power_raise R a h _ 4 0x111000 twice in
-    record { within = c.product.ensures.within; value = c.product.ensures.value ∙ power_product R a h _ _ 0x1110 0x1110000 three thrice }
+    c.product.ensures.value ∙ power_product R a h _ _ 0x1110 0x1110000 three thrice

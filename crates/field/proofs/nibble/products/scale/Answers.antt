@@ -1,8 +1,7 @@
 -- Assumes nothing.
-use Rattle.std.proofs.Common.{◌≡◌, ℕ, ◌^◌, ◌<◌, sym, refl, ap, ◌∙◌, subst, ap₂, arith}
+use Rattle.std.proofs.Common.{ℕ, ◌^◌, ◌<◌, sym, refl, ap, ◌∙◌, subst, ap₂}
 use lib.Bits.{bit_xor}
 use Rattle.linear.specs.Field.{iterate}
-use Rattle.binary.specs.Codes.{product}
 use Rattle.binary.specs.Products.{scale_x}
 use Rattle.binary.proofs.Bases.{product_less}
 use Rattle.binary.proofs.Maps.{iterate_linear}
@@ -24,8 +23,6 @@ loop-i-preserved c = (
   ],
 )
 
-pub returns : goal.returns
-returns c =
-    let all : c.loop-i.i ≡ 4 = omega arith in
-    let e = c.loop-i.invariant.2 ∙ ap (λ (k : ℕ). product k (iterate scale_x) c.args.d c.args.b) all in
-    record { within = subst (λ (r : ℕ). r < 2 ^ 28) (sym e) (product_less (iterate_linear scale_x_linear) 4 c.args.d c.args.b c.requires.1); value = e }
+pub returns-clause-within : goal.returns-clause-within
+returns-clause-within c =
+    subst (λ (r : ℕ). r < 2 ^ 28) (sym c.loop-i.invariant.2) (product_less (iterate_linear scale_x_linear) c.loop-i.i c.args.d c.args.b c.requires.1)

@@ -1,5 +1,5 @@
 -- Assumes nothing.
-use Rattle.std.proofs.Common.{◌≡◌, ℕ, refl, ap, ◌∙◌, arith}
+use Rattle.std.proofs.Common.{refl, ap, ◌∙◌}
 use Rattle.binary.specs.Codes.{raise, square}
 use Rattle.binary.specs.Products.{word_product}
 use Rattle.binary.proofs.Steps.{iterate_step}
@@ -13,8 +13,3 @@ pub loop-preserved : goal.loop-preserved
 unfolding raise
 loop-preserved c =
     c.square-power.ensures ∙ ap (square word_product) c.loop.invariant ∙ iterate_step (square word_product) c.loop.counter c.args.a
-
-pub returns : goal.returns
-returns c =
-    let all : c.loop.counter ≡ c.args.n = omega arith in
-    c.loop.invariant ∙ ap (λ (k : ℕ). raise word_product k c.args.a) all
