@@ -39,9 +39,7 @@ fn lead_of<F: SymbolField, H: Holding<F>>(divisor: &[H::Slot]) -> Lead<F>
     ensures { Leading (alphabet F.Scalar.FiniteField F.FiniteField F.SymbolField) (map H.Holding.held divisor.now) result }
 {
     let place = counted_length::<F, H>(divisor) - 1;
-    let Some(inverse) = H::load(divisor[place]).inverse() else {
-        unreachable()
-    };
+    let inverse = H::load(divisor[place]).inverse().unwrap();
     let m = F::m();
     Lead {
         place,
@@ -108,13 +106,10 @@ fn copy<F: FiniteField, H: Holding<F>>(coefficients: &[H::Slot], output: &mut [H
     requires { counted F.FiniteField.field (map H.Holding.held coefficients.now) ≤ length output.old }
     ensures { Same F.FiniteField.field (map H.Holding.held output.new) (map H.Holding.held coefficients.now) }
 {
-    for i in 0..output.len() {
-        output[i] = if i < coefficients.len() {
-            coefficients[i]
-        } else {
-            H::store(F::zero())
-        };
-    }
+    let n = coefficients.len().min(output.len());
+    let (front, rest) = output.split_at_mut(n);
+    front.copy_from_slice(&coefficients[..n]);
+    clear::<F, H>(rest);
 }
 
 // The refusals of a division, in the order of their numbers.
