@@ -1,5 +1,5 @@
 -- Long division by parts: the divisor's lead, and products taken off the remainder one after the other.
-use Rattle.std.proofs.Common.{◌≡◌, ℕ, ◌+◌, ◌-◌, ◌*◌, ◌/◌, ◌%◌, ◌<◌, ◌≤◌, Bool, true, false, ◌||◌, eqb, ltb, List, [], ◌∷◌, Some, None, sym, refl, ap, ◌∙◌, subst, add-zero, mod-lt, mul_comm, arith, true-eqb}
+use Rattle.std.proofs.Common.{◌≡◌, ℕ, ◌+◌, ◌-◌, ◌*◌, ◌/◌, ◌%◌, ◌<◌, ◌≤◌, map, length, take, length-take, Bool, true, false, ◌||◌, eqb, ltb, List, [], ◌∷◌, Some, None, sym, refl, ap, ◌∙◌, subst, add-zero, mod-lt, mul_comm, arith, true-eqb}
 use native.Mathlib.Nat.{mod_self, mod-add-mod, add-mod-mod, div-add-mod}
 use native.Mathlib.Decide.{ℕ_discrete}
 use Rattle.std.proofs.lemmas.Bool.Decides.{nat_tests}
@@ -10,6 +10,7 @@ use Rattle.linearized.specs.Coefficients.{Same}
 use Rattle.linearized.specs.Division.{DivisionStep}
 use Rattle.linearized.proofs.Counts.{counted_past, counted_top, counted_least}
 use Rattle.linearized.proofs.Division.{cancelling}
+use Rattle.subspace_code.proofs.Slots.{at_taken}
 use Rattle.subspace_code.specs.declared.division.Lead.{Lead}
 use Rattle.answer.specs.declared.refusal.Refusal.{Refusal}
 use Rattle.answer.specs.declared.refusal.Refusal.TheVariants.{OutputShort, DivisorZero}
@@ -59,6 +60,17 @@ module _ {K S : Type 0} (A : Alphabet K S) (B R : List S) (c : S) (p : ℕ) wher
     ];
     high = λ k l. others k (omega arith) ∙ so_far.high k (omega arith);
   }
+
+-- the same of a divisor of which the first n slots were used
+pub taken_whole : {K S T : Type 0} (A : Alphabet K S) (held : T → S) (divisor : List T) (n : ℕ) (R T' : List S) (c : S) (p : ℕ) → n ≤ length divisor
+    → TakenOff A (map held (take n divisor)) R T' c p (length (take n divisor)) → TakenOff A (map held divisor) R T' c p n
+taken_whole A held divisor n R T' c p long off =
+    let many : length (take n divisor) ≡ n = simp length-take (omega arith) in
+    record {
+      low = off.low;
+      taken = λ i l. rw (at_taken A.symbols held divisor n i l) at (off.taken i (omega arith));
+      high = λ k l. off.high k (omega arith);
+    }
 
 -- one coefficient of the quotient, with all that it brings taken off
 pub quotient_step : {K S : Type 0} {A : Alphabet K S} → Lawful A → (B f R g T : List S) (lead : Lead S) (p : ℕ) (c : S) → Leading A B lead →

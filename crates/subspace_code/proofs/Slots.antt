@@ -60,6 +60,9 @@ module _ {S T : Type 0} (G : Field S) (held : T → S) where
   at_rest front rest n k e l =
       ap (λ f. at G f k) (map-append held front rest) ∙ get_or-append_right (map held front) (map held rest) n k G.zero (length-map front held ∙ e) l
 
+  pub at_taken : (slots : List T) (n k : ℕ) → k < n → at G (map held (take n slots)) k ≡ at G (map held slots) k
+  at_taken slots n k l = ap (λ f. at G f k) (sym (take-map held n slots)) ∙ get_or-take n (map held slots) k G.zero l
+
   -- the first n slots, and zeros after them
   pub filled_up : (slots front rest : List T) (n : ℕ) → front ≡ take n slots → n ≤ length slots → counted G (map held slots) ≤ n →
       Null G (map held rest) → Same G (map held (front ++ rest)) (map held slots)
@@ -68,7 +71,7 @@ module _ {S T : Type 0} (G : Field S) (held : T → S) where
       elim (dec_lt k n) [
         | yes l ↦
             at_front front rest k (omega arith)
-            ∙ ap (λ f. at G f k) (ap (map held) is ∙ sym (take-map held n slots)) ∙ get_or-take n (map held slots) k G.zero l
+            ∙ ap (λ f. at G (map held f) k) is ∙ at_taken slots n k l
         | no l ↦ at_rest front rest n k many (omega arith) ∙ null (k - n) ∙ sym (counted_past G (map held slots) k (omega arith))
       ]
 

@@ -51,17 +51,16 @@ fn lead_of<F: SymbolField, H: Holding<F>>(divisor: &[H::Slot]) -> Lead<F>
 // Takes off the remainder what the quotient's coefficient c at p brings to B(f): B_i times c raised i times, at p + i.
 fn take_off<F: SymbolField, H: Holding<F>>(
     divisor: &[H::Slot],
-    count: usize,
     c: F,
     remainder: &mut [H::Slot],
     p: usize,
 )
-    requires { (count ≤ length divisor.now) × (p + count ≤ length remainder.old) }
-    ensures { TakenOff (alphabet F.Scalar.FiniteField F.FiniteField F.SymbolField) (map H.Holding.held divisor.now) (map H.Holding.held remainder.old) (map H.Holding.held remainder.new) c p count }
+    requires { p + length divisor.now ≤ length remainder.old }
+    ensures { TakenOff (alphabet F.Scalar.FiniteField F.FiniteField F.SymbolField) (map H.Holding.held divisor.now) (map H.Holding.held remainder.old) (map H.Holding.held remainder.new) c p (length divisor.now) }
 {
     let mut power = c;
-    for i in 0..count {
-        let product = H::load(divisor[i]).times(power);
+    for (i, slot) in divisor.iter().enumerate() {
+        let product = H::load(*slot).times(power);
         remainder[p + i] = H::store(H::load(remainder[p + i]).plus(product.negative()));
         power = power.raise();
     }
@@ -81,7 +80,7 @@ fn step<F: SymbolField, H: Holding<F>>(
     let top = H::load(remainder[p + lead.place]);
     let c = raised(lead.inverse.times(top), lead.raises);
     quotient[p] = H::store(c);
-    take_off::<F, H>(divisor, lead.place + 1, c, remainder, p);
+    take_off::<F, H>(&divisor[..=lead.place], c, remainder, p);
 }
 
 // Divides the remainder, which holds the dividend at first, by a divisor that is not zero.
