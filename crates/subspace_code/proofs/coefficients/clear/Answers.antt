@@ -1,4 +1,4 @@
-use Rattle.std.proofs.Common.{◌≡◌, map, rules}
+use Rattle.std.proofs.Common.{map, rules}
 use Rattle.std.proofs.lemmas.Fn.{chained_keeps}
 use Rattle.linearized.specs.Coefficients.{Null}
 use Rattle.subspace_code.proofs.Slots.{null_none, null_more}

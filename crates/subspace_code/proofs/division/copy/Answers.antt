@@ -1,4 +1,4 @@
-use Rattle.std.proofs.Common.{arith, length-take, rules}
+use Rattle.std.proofs.Common.{arith, rules}
 use Rattle.subspace_code.proofs.Slots.{filled_up, counted_slots}
 use Rattle.subspace_code.proofs.division.copy.Goals as goal
 

@@ -20,17 +20,12 @@ inverted G held slots n slot x count some is loaded =
 
 pub unwrap-inverse-requires : goal.unwrap-inverse-requires
 unwrap-inverse-requires g c =
-    rw (c.inverse.ensures
-    ∙ inverted g.F.FiniteField.field g.H.Holding.held c.args.divisor.now c.counted_length-place.result c.index-divisor-place.result c.load.result
-    c.counted_length-place.ensures c.requires c.index-divisor-place.is c.load.ensures) refl
+    rw (c.inverse.ensures ∙ inverted g.F.FiniteField.field g.H.Holding.held c.args.divisor.now _ _ _ c.counted_length-place.ensures c.requires c.index-divisor-place.is c.load.ensures) refl
 
 pub returns : goal.returns
 returns g c =
-    let G = g.F.FiniteField.field in
     let n = c.counted_length-place.result in
-    let found =
-    inverted G g.H.Holding.held c.args.divisor.now n c.index-divisor-place.result c.load.result
-    c.counted_length-place.ensures c.requires c.index-divisor-place.is c.load.ensures in
+    let found = inverted g.F.FiniteField.field g.H.Holding.held c.args.divisor.now _ _ _ c.counted_length-place.ensures c.requires c.index-divisor-place.is c.load.ensures in
     let both = sym c.unwrap-inverse.ensures ∙ c.inverse.ensures ∙ found in
     record {
       top = omega (arith, c.requires, c.counted_length-place.ensures);

@@ -20,9 +20,6 @@ slice_bounds-take_off-end g c =
     let long = counted_slots g.F.FiniteField.field g.H.Holding.held c.args.divisor.now in
     simp length-take (omega (arith, c.requires.0.top))
 
-pub take_off-requires : goal.take_off-requires
-take_off-requires g c = simp length-take (omega (arith, c.requires.1.1))
-
 pub returns : goal.returns
 unfolding A
 returns g c =

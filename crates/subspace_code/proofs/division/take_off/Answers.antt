@@ -1,12 +1,11 @@
-use Rattle.std.proofs.Common.{◌≡◌, ◌+◌, map, set, sym, refl, ap, ◌∙◌, subst, ap₂, arith}
+use Rattle.std.proofs.Common.{◌≡◌, ◌+◌, map, set, sym, ap, ◌∙◌, ap₂, arith}
 use Rattle.linear.specs.Field.{iterate}
 use Rattle.field.specs.Alphabet.{Alphabet}
 use Rattle.field.proofs.Members.{alphabet}
 use Rattle.linearized.specs.Polynomials.{at}
-use Rattle.subspace_code.specs.Dividing.{TakenOff}
 use Rattle.subspace_code.proofs.Sums.{iterate_more}
 use Rattle.subspace_code.proofs.Slots.{at_slot, at_written, at_unwritten}
-use Rattle.subspace_code.proofs.Quotients.{taken_none, taken_more}
+use Rattle.subspace_code.proofs.Quotients.{taken_more}
 use Rattle.subspace_code.proofs.division.take_off.Given as given
 use Rattle.subspace_code.proofs.division.take_off.Goals as goal
 

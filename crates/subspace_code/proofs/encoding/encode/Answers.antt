@@ -16,9 +16,9 @@ laws : (g : given.Over) → Lawful (A g)
 unfolding A
 laws g = record { scalar_codes = g.met.F.Scalar.FiniteField.codes; codes = g.met.F.FiniteField.codes; extension = g.met.F.SymbolField.extension }
 
-pub returns : goal.returns
+pub returns-clause-codewords : goal.returns-clause-codewords
 unfolding A
-returns g c =
+returns-clause-codewords g c _ =
     let ℓ = c.args.l in
     let u = c.args.message.now in
     let small : ℓ ≤ g.F.SymbolField.m = search rules in
@@ -27,8 +27,4 @@ returns g c =
     let sent : c.write_packets.new.output ≡ packets (A g) ℓ u = c.write_packets.ensures ∙ ap (λ n. packets (A g) n u) many in
     let front =
     take_at c.write_packets.new.output (drop ℓ c.args.output.now) ℓ (ap length sent ∙ length-map-range_with_len (λ i. packet_at (A g) u (basis (A g) i)) 0 ℓ) in
-    record {
-      answer = search rules;
-      output = search rules;
-      codewords = λ _. subst (Each (Codeword (A g) ℓ u)) (sym (front ∙ sent)) (packets_codewords (A g) (laws g) ℓ u small);
-    }
+    subst (Each (Codeword (A g) ℓ u)) (sym (front ∙ sent)) (packets_codewords (A g) (laws g) ℓ u small)

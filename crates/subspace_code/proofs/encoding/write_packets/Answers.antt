@@ -1,5 +1,4 @@
 use Rattle.std.proofs.Common.{◌≡◌, ℕ, ◌+◌, ◌*◌, ◌^◌, ◌<◌, Some, set, sym, refl, ap, ◌∙◌, subst, arith, Fits-lit}
-use native.Mathlib.Nat.{pow-zero}
 use mir.Facts.{Fits-lt}
 use Rattle.std.proofs.lemmas.List.{map-id}
 use Rattle.field.specs.Laws.{of_code}
@@ -19,9 +18,6 @@ A g = alphabet g.F.Scalar.FiniteField g.F.FiniteField g.F.SymbolField
 laws : (g : given.Over) → Lawful (A g)
 unfolding A
 laws g = record { scalar_codes = g.met.F.Scalar.FiniteField.codes; codes = g.met.F.FiniteField.codes; extension = g.met.F.SymbolField.extension }
-
-pub loop-place-init : goal.loop-place-init
-loop-place-init g c = (sym (pow-zero g.F.SymbolField.q), refl)
 
 -- the turn's code is that of a symbol
 some : {K S : Type 0} {A : Alphabet K S} → Lawful A → (i code : ℕ) → i < A.m → code ≡ A.q ^ i → of_code A.size A.element code ≡ Some (A.element code)
