@@ -9,15 +9,15 @@ use Rattle.field.specs.Alphabet.{Alphabet}
 use Rattle.packet.specs.declared.Packet.{Packet}
 use Rattle.feed.specs.Feeds.{feed_limit}
 use Rattle.feed.specs.Layers.{held, gapped, mixed, stirred, stirred_after}
-use Rattle.feed.specs.Lists.{held_from, gap_from, join_from, stir_from}
+use Rattle.feed.specs.Lists.{gap_from, join_from, stir_from}
 
 module _ {P : Type 0} where
-  pub held_length : (at : ℕ) (ps : List P) → length (held_from at ps) ≡ min feed_limit (length ps) - at
+  pub held_length : (ps : List P) → length (held ps) ≡ min feed_limit (length ps)
   unfolding held
-  held_length at ps = simp (length-drop, length-take)
+  held_length ps = length-take feed_limit ps
 
-  pub held_short : (at : ℕ) (ps : List P) → length (held_from at ps) ≤ feed_limit
-  held_short at ps = let e = held_length at ps in omega arith
+  pub held_short : (ps : List P) → length (held ps) ≤ feed_limit
+  held_short ps = let e = held_length ps in omega arith
 
   pub gap_length : (n : ℕ) (ps : List P) → length (gapped n ps) ≡ min n (length ps) + (length ps - suc n)
   gap_length n ps = simp (length-append, length-take, length-drop)
@@ -26,12 +26,12 @@ module _ {P : Type 0} where
   gap_short None ps h = h
   gap_short (Some n) ps h = let e = gap_length n ps in omega arith
 
-  pub join_length : (given : ℕ) (ps rs : List P) → length (join_from given ps rs) ≡ min (feed_limit - given) (length ps + length rs)
+  pub join_length : (left : ℕ) (ps rs : List P) → length (join_from left ps rs) ≡ min left (length ps + length rs)
   unfolding join_from
-  join_length given ps rs = simp (length-take, length-append)
+  join_length left ps rs = simp (length-take, length-append)
 
-  pub join_short : (given : ℕ) (ps rs : List P) → length (join_from given ps rs) ≤ feed_limit
-  join_short given ps rs = let e = join_length given ps rs in omega arith
+  pub join_short : (left : ℕ) → left ≤ feed_limit → (ps rs : List P) → length (join_from left ps rs) ≤ feed_limit
+  join_short left h ps rs = let e = join_length left ps rs in omega arith
 
 module _ {K S : Type 0} (A : Alphabet K S) (c : K) where
   after_length : (o : Packet S) (ps : List (Packet S)) → length (stirred_after A c o ps) ≡ length ps
