@@ -26,12 +26,12 @@ module _ {P : Type 0} where
   gap_short None ps h = h
   gap_short (Some n) ps h = let e = gap_length n ps in omega arith
 
-  pub join_length : (left : ℕ) (ps rs : List P) → length (join_from left ps rs) ≡ min left (length ps + length rs)
+  pub join_length : (given : ℕ) (ps rs : List P) → length (join_from given ps rs) ≡ min (feed_limit - given) (length ps + length rs)
   unfolding join_from
-  join_length left ps rs = simp (length-take, length-append)
+  join_length given ps rs = simp (length-take, length-append)
 
-  pub join_short : (left : ℕ) → left ≤ feed_limit → (ps rs : List P) → length (join_from left ps rs) ≤ feed_limit
-  join_short left h ps rs = let e = join_length left ps rs in omega arith
+  pub join_short : (given : ℕ) (ps rs : List P) → length (join_from given ps rs) ≤ feed_limit
+  join_short given ps rs = let e = join_length given ps rs in omega arith
 
 module _ {K S : Type 0} (A : Alphabet K S) (c : K) where
   after_length : (o : Packet S) (ps : List (Packet S)) → length (stirred_after A c o ps) ≡ length ps

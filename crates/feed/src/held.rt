@@ -1,22 +1,32 @@
 // The held feed: lends out the packets of a slice.
-ghost use Rattle.std.specs.Prelude.{◌≡◌, ◌≤◌, length};
+ghost use Rattle.std.specs.Prelude.{◌≡◌, ◌≤◌, List, length};
 ghost use Rattle.feed.specs.Layers.{held};
+ghost use Rattle.packet.specs.declared.Packet.{Packet as PacketOf};
 ghost use Rattle.feed.specs.Feeds.{feed_limit};
+ghost use Rattle.feed.specs.Lengths.{held_short};
 
 use crate::{Feed, LIMIT};
 use field::SymbolField;
 use packet::Packet;
+use std::marker::Model;
 
 // `packets` are those that are still to come.
 #[derive(Drop)]
 pub struct Held<'a, F> {
     packets: &'a [Packet<F>],
-    ghost short: { length packets.now ≤ feed_limit },
+}
+
+impl<'a, F> Model for Held<'a, F> {
+    ghost Value = { List (PacketOf F) };
+
+    ghost view = { λ s. s.packets.now };
+
+    ghost invariant = { λ s. length s.packets.now ≤ feed_limit };
 }
 
 impl<'a, F: SymbolField> Held<'a, F> {
     pub fn new(packets: &'a [Packet<F>]) -> Held<'a, F>
-        ensures { result.packets.now ≡ held packets.now }
+        ensures { held result ≡ held packets.now }
     {
         Held {
             packets: &packets[..packets.len().min(LIMIT)],
@@ -27,9 +37,9 @@ impl<'a, F: SymbolField> Held<'a, F> {
 impl<'a, F: SymbolField> Feed for Held<'a, F> {
     type Item = Packet<F>;
 
-    ghost list = { λ s. s.packets.now };
+    ghost list = { held };
 
-    ghost short = { λ s. s.short };
+    ghost short = { held_short };
 
     fn len(&self) -> usize {
         self.packets.len()

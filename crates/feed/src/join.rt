@@ -1,30 +1,28 @@
 // The join layer: the packets of one feed, then those of another.
-ghost use Rattle.std.specs.Prelude.{◌≡◌, ◌≤◌, ◌++◌};
-ghost use Rattle.feed.specs.Feeds.{feed_limit};
+ghost use Rattle.std.specs.Prelude.{◌≡◌, ◌++◌};
 ghost use Rattle.feed.specs.Layers.{joined};
-ghost use Rattle.feed.specs.Lists.{join_from};
+ghost use Rattle.feed.specs.Lists.{join_list};
 ghost use Rattle.feed.specs.Lengths.{join_short};
 
 use crate::{Feed, LIMIT};
 
-// `left` is how many packets it may still give out.
+// `given` is how many packets were given out.
 #[derive(Drop)]
 pub struct Join<C, D> {
     first: C,
     second: D,
-    left: usize,
-    ghost within: { left ≤ feed_limit },
+    given: usize,
 }
 
 impl<C: Feed, D: Feed<Item = C::Item>> Join<C, D> {
     pub fn new(first: C, second: D) -> Join<C, D>
-        ensures list { join_from result.left (C.Feed.list result.first) (D.Feed.list result.second) ≡ joined (C.Feed.list first) (D.Feed.list second) }
+        ensures list { join_list C.Feed.list D.Feed.list result ≡ joined (C.Feed.list first) (D.Feed.list second) }
         ensures lower { (result.first ≡ first) × (result.second ≡ second) }
     {
         Join {
             first,
             second,
-            left: LIMIT,
+            given: 0,
         }
     }
 }
@@ -32,18 +30,22 @@ impl<C: Feed, D: Feed<Item = C::Item>> Join<C, D> {
 impl<C: Feed, D: Feed<Item = C::Item>> Feed for Join<C, D> {
     type Item = C::Item;
 
-    ghost list = { λ s. join_from s.left (C.Feed.list s.first) (D.Feed.list s.second) };
+    ghost list = { join_list C.Feed.list D.Feed.list };
 
-    ghost short = { λ s. join_short s.left s.within (C.Feed.list s.first) (D.Feed.list s.second) };
+    ghost short = { λ s. join_short s.given (C.Feed.list s.first) (D.Feed.list s.second) };
 
     ghost lenders = { λ s. C.Feed.lenders s.first ++ D.Feed.lenders s.second };
 
     fn len(&self) -> usize {
-        self.left.min(self.first.len() + self.second.len())
+        let below = self.first.len() + self.second.len();
+        LIMIT.saturating_sub(self.given).min(below)
     }
 
     fn next(&mut self) -> Option<C::Item> {
-        self.left = self.left.checked_sub(1)?;
+        if self.given >= LIMIT {
+            return None;
+        }
+        self.given += 1;
         match self.first.next() {
             Some(packet) => Some(packet),
             None => self.second.next(),

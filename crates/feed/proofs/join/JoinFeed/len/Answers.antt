@@ -3,4 +3,7 @@ use Rattle.feed.specs.Lengths.{join_length}
 use Rattle.feed.proofs.join.JoinFeed.len.Goals as goal
 
 pub returns : goal.returns
-returns g c = grind (arith, join_length)
+returns g c =
+    let s = c.args.self.now in
+    let e = join_length s.given (g.C.Feed.list s.first) (g.D.Feed.list s.second) in
+    omega arith
