@@ -42,12 +42,9 @@ impl<F: SymbolField> Feed for Ladder<F> {
     }
 
     fn next(&mut self) -> Option<Packet<F>> {
-        if self.left == 0 {
-            return None;
-        }
+        self.left = self.left.checked_sub(1)?;
         let given = self.rung;
         self.rung = given.plus(self.step);
-        self.left -= 1;
         Some(given)
     }
 }

@@ -54,13 +54,9 @@ fn taken<F: SymbolField>(
 }
 
 fn refused<T: Drop>(rt: &impl Abort, answer: Result<T, Refusal>, number: u8) -> Result<(), Fail> {
-    match answer {
-        Ok(_) => Err(Fail::new("not refused")),
-        Err(refusal) => {
-            assert_eq!(rt; refusal.number(), number);
-            Ok(())
-        },
-    }
+    let refusal = answer.err().ok_or("not refused")?;
+    assert_eq!(rt; refusal.number(), number);
+    Ok(())
 }
 
 // Every call on these block numbers is refused with the same refusal; what is drained is `none`, which has no packets.

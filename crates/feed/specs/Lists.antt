@@ -1,24 +1,19 @@
--- What the feeds of this crate have still to come. Of a layer, `below` is the list of what lies below it.
---   held_list   the packets held, from the place reached on
+-- What the layers of this crate have still to come. Of a layer, `below` is the list of what lies below it.
 --   gap_list    gapped, while the gap is ahead
 --   join_list   both lists, as far as the limit goes beyond what was given out
 --   stir_list   stirred, after the last packet given out
 -- Each is a function X-from of the parts that change with a call.
 -- Assumes nothing.
-use Rattle.std.specs.Prelude.{ℕ, ◌-◌, List, ◌++◌, take, drop, Some, None, Option}
+use Rattle.std.specs.Prelude.{ℕ, ◌-◌, List, ◌++◌, take, Some, None, Option}
 use Rattle.field.specs.Alphabet.{Alphabet}
 use Rattle.packet.specs.declared.Packet.{Packet}
 use Rattle.feed.specs.Feeds.{feed_limit}
-use Rattle.feed.specs.Layers.{held, gapped, stirred, stirred_after}
+use Rattle.feed.specs.Layers.{gapped, stirred, stirred_after}
 use Rattle.feed.specs.declared.gap.Gap.{Gap}
-use Rattle.feed.specs.declared.held.Held.{Held}
 use Rattle.feed.specs.declared.join.Join.{Join}
 use Rattle.feed.specs.declared.stir.Stir.{Stir}
 
 module _ {P : Type 0} where
-  abbrev pub held_from : ℕ → List P → List P
-  held_from at ps = drop at (held ps)
-
   abbrev pub gap_from : Option ℕ → List P → List P
   gap_from None ps = ps
   gap_from (Some n) ps = gapped n ps
@@ -29,9 +24,6 @@ module _ {P : Type 0} where
 abbrev pub stir_from : {K S : Type 0} → Alphabet K S → K → Option (Packet S) → List (Packet S) → List (Packet S)
 stir_from A c None ps = stirred A c ps
 stir_from A c (Some o) ps = stirred_after A c o ps
-
-abbrev pub held_list : {S : Type 0} → Held S → List (Packet S)
-held_list s = held_from s.at s.packets.now
 
 abbrev pub gap_list : {P D : Type 0} → (D → List P) → Gap D → List P
 gap_list below s = gap_from s.place (below s.lower)

@@ -40,20 +40,16 @@ where
     fn len(&self) -> usize {
         let below = self.lower.len();
         match self.place {
-            None => below,
-            Some(place) => { if place < below { below - 1 } else { below } }
+            Some(place) if place < below => below - 1,
+            _ => below,
         }
     }
 
     fn next(&mut self) -> Option<D::Item> {
-        if let Some(place) = self.place {
-            if place == 0 {
-                let _ = self.lower.next();
-                self.place = None;
-            } else {
-                self.place = Some(place - 1);
-            }
+        if self.place == Some(0) {
+            let _ = self.lower.next();
         }
+        self.place = self.place.and_then(|place| place.checked_sub(1));
         self.lower.next()
     }
 }

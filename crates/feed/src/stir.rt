@@ -45,16 +45,11 @@ impl<F: SymbolField, D: Feed<Item = Packet<F>>> Feed for Stir<F, D> {
     }
 
     fn next(&mut self) -> Option<Packet<F>> {
-        match self.lower.next() {
-            None => None,
-            Some(packet) => {
-                let given = match self.last {
-                    None => packet,
-                    Some(last) => packet.plus(last.scaled(self.scalar)),
-                };
-                self.last = Some(given);
-                Some(given)
-            }
-        }
+        let packet = self.lower.next()?;
+        let given = self
+            .last
+            .map_or(packet, |last| packet.plus(last.scaled(self.scalar)));
+        self.last = Some(given);
+        Some(given)
     }
 }

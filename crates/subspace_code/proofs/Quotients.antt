@@ -1,5 +1,5 @@
 -- Long division by parts: the divisor's lead, and products taken off the remainder one after the other.
-use Rattle.std.proofs.Common.{◌≡◌, ℕ, ◌+◌, ◌-◌, ◌*◌, ◌/◌, ◌%◌, ◌<◌, ◌≤◌, Bool, true, false, ◌||◌, eqb, ltb, List, [], ◌∷◌, Some, None, sym, refl, ap, ◌∙◌, subst, add-zero, mod-lt, mul_comm, arith, true-eqb}
+use Rattle.std.proofs.Common.{◌≡◌, ℕ, ◌+◌, ◌-◌, ◌*◌, ◌/◌, ◌%◌, ◌<◌, ◌≤◌, map, length, take, length-take, List, Some, sym, refl, ap, ◌∙◌, subst, add-zero, mod-lt, mul_comm, arith}
 use native.Mathlib.Nat.{mod_self, mod-add-mod, add-mod-mod, div-add-mod}
 use native.Mathlib.Decide.{ℕ_discrete}
 use Rattle.std.proofs.lemmas.Bool.Decides.{nat_tests}
@@ -10,12 +10,10 @@ use Rattle.linearized.specs.Coefficients.{Same}
 use Rattle.linearized.specs.Division.{DivisionStep}
 use Rattle.linearized.proofs.Counts.{counted_past, counted_top, counted_least}
 use Rattle.linearized.proofs.Division.{cancelling}
+use Rattle.subspace_code.proofs.Slots.{at_taken}
 use Rattle.subspace_code.specs.declared.division.Lead.{Lead}
 use Rattle.answer.specs.declared.refusal.Refusal.{Refusal}
-use Rattle.answer.specs.declared.refusal.Refusal.TheVariants.{OutputShort, DivisorZero}
 use Rattle.subspace_code.specs.Dividing.{divide_refusal, Leading, TakenOff}
-use Rattle.answer.specs.Refusals.{first_cause}
-use Rattle.answer.proofs.Tested.{no_cause}
 
 -- e raises and this many more are m raises, once or several times
 pub raises_undo : (e m : ℕ) → 0 < m → (j : ℕ) × (e + (m - e % m) % m ≡ j * m)
@@ -60,6 +58,17 @@ module _ {K S : Type 0} (A : Alphabet K S) (B R : List S) (c : S) (p : ℕ) wher
     high = λ k l. others k (omega arith) ∙ so_far.high k (omega arith);
   }
 
+-- the same of a divisor of which the first n slots were used
+pub taken_whole : {K S T : Type 0} (A : Alphabet K S) (held : T → S) (divisor : List T) (n : ℕ) (R T' : List S) (c : S) (p : ℕ) → n ≤ length divisor
+    → TakenOff A (map held (take n divisor)) R T' c p (length (take n divisor)) → TakenOff A (map held divisor) R T' c p n
+taken_whole A held divisor n R T' c p long off =
+    let many : length (take n divisor) ≡ n = simp length-take (omega arith) in
+    record {
+      low = off.low;
+      taken = λ i l. rw (at_taken A.symbols held divisor n i l) at (off.taken i (omega arith));
+      high = λ k l. off.high k (omega arith);
+    }
+
 -- one coefficient of the quotient, with all that it brings taken off
 pub quotient_step : {K S : Type 0} {A : Alphabet K S} → Lawful A → (B f R g T : List S) (lead : Lead S) (p : ℕ) (c : S) → Leading A B lead →
     c ≡ iterate A.frobenius lead.raises (A.symbols.mul lead.inverse (at A.symbols R (p + lead.place))) → at A.symbols g p ≡ c →
@@ -84,19 +93,7 @@ quotient_step {A = A} laws B f R g T lead p c leading found placed others off =
 pub divided_same : {K S : Type 0} (A : Alphabet K S) (D E B f R : List S) → Same A.symbols E D → Divided A E B f R → Divided A D B f R
 divided_same A D E B f R same divided = record { shorter = divided.shorter; whole = λ n. sym (same n) ∙ divided.whole n }
 
-pub not_refused : (dividend divisor quotient remainder : ℕ) → divide_refusal dividend divisor quotient remainder ≡ None →
-    (dividend ≤ quotient) × (dividend ≤ remainder) × (0 < divisor)
-not_refused dividend divisor quotient remainder e =
-    let (wide, rest) = no_cause (ltb quotient dividend || ltb remainder dividend) OutputShort ((eqb divisor 0, DivisorZero) ∷ []) e in
-    let (some, none) = no_cause (eqb divisor 0) DivisorZero [] rest in
-    grind (arith, nat_tests)
-
 -- with room in both outputs only a zero divisor is refused
 pub refused_zero : (dividend divisor quotient remainder : ℕ) (e : Refusal) → divide_refusal dividend divisor quotient remainder ≡ Some e →
     dividend ≤ quotient → dividend ≤ remainder → divisor ≡ 0
-refused_zero dividend divisor quotient remainder e h wide long = go (ltb quotient dividend || ltb remainder dividend) (eqb divisor 0) refl refl h
-  where
-    go : (a b : Bool) → ltb quotient dividend || ltb remainder dividend ≡ a → eqb divisor 0 ≡ b → first_cause ((a, OutputShort) ∷ (b, DivisorZero) ∷ []) ≡ Some e → divisor ≡ 0
-    go true b p q h = grind (arith, nat_tests)
-    go false true p q h = true-eqb divisor 0 (sym q)
-    go false false p q h = let z : ◌≡◌ {A = ℕ} 0 1 = cc in absurd (let y : ⊥ = omega arith in y)
+refused_zero dividend divisor quotient remainder e h wide long = grind (arith, nat_tests)

@@ -1,14 +1,10 @@
--- One step more of a sum, an iteration and a written front, as loops take it.
+-- One step more of an iteration and a written front, as loops take it.
 use Rattle.std.proofs.Common.{◌≡◌, ℕ, ◌+◌, ◌<◌, List, [], ◌∷◌, ◌++◌, map, length, get_or, drop, set, replicate, sym, ap, ◌∙◌, append_assoc, zero-add, add-one}
 use lib.ListN.{length-replicate}
 use Rattle.std.specs.List.{range_with_len}
 use Rattle.std.proofs.lemmas.List.{set_at, drop_more, replicate_more}
 use Rattle.std.proofs.lemmas.List.FromFn.{length-map-range_with_len, map-range_with_len_more}
-use Rattle.linear.specs.Field.{Field, iterate}
-use Rattle.linearized.specs.Polynomials.{total}
-
-pub total_more : {S : Type 0} (G : Field S) (h : ℕ → S) (n : ℕ) → total G h (n + 1) ≡ G.add (total G h n) (h n)
-total_more G h n = ap (total G h) (add-one n)
+use Rattle.linear.specs.Field.{iterate}
 
 pub iterate_more : {X : Type 0} (f : X → X) (n : ℕ) (x : X) → iterate f (n + 1) x ≡ f (iterate f n x)
 iterate_more f n x = ap (λ k. iterate f k x) (add-one n)

@@ -10,18 +10,15 @@ use field::FiniteField;
 pub(crate) fn counted_length<F: FiniteField, H: Holding<F>>(slots: &[H::Slot]) -> usize
     ensures { result ≡ counted F.FiniteField.field (map H.Holding.held slots.now) }
 {
-    let mut n = slots.len();
-    while n > 0 && H::load(slots[n - 1]).code() == 0 {
-        n -= 1;
-    }
-    n
+    slots
+        .iter()
+        .rposition(|slot| H::load(*slot).code() != 0)
+        .map_or(0, |last| last + 1)
 }
 
 // Writes zero to every place.
 pub(crate) fn clear<F: FiniteField, H: Holding<F>>(slots: &mut [H::Slot])
     ensures { Null F.FiniteField.field (map H.Holding.held slots.new) }
 {
-    for slot in slots.iter_mut() {
-        *slot = H::store(F::zero());
-    }
+    slots.fill_with(|| H::store(F::zero()));
 }

@@ -39,9 +39,7 @@ fn lead_of<F: SymbolField, H: Holding<F>>(divisor: &[H::Slot]) -> Lead<F>
     ensures { Leading (alphabet F.Scalar.FiniteField F.FiniteField F.SymbolField) (map H.Holding.held divisor.now) result }
 {
     let place = counted_length::<F, H>(divisor) - 1;
-    let Some(inverse) = H::load(divisor[place]).inverse() else {
-        unreachable()
-    };
+    let inverse = H::load(divisor[place]).inverse().unwrap();
     let m = F::m();
     Lead {
         place,
@@ -53,17 +51,16 @@ fn lead_of<F: SymbolField, H: Holding<F>>(divisor: &[H::Slot]) -> Lead<F>
 // Takes off the remainder what the quotient's coefficient c at p brings to B(f): B_i times c raised i times, at p + i.
 fn take_off<F: SymbolField, H: Holding<F>>(
     divisor: &[H::Slot],
-    count: usize,
     c: F,
     remainder: &mut [H::Slot],
     p: usize,
 )
-    requires { (count ≤ length divisor.now) × (p + count ≤ length remainder.old) }
-    ensures { TakenOff (alphabet F.Scalar.FiniteField F.FiniteField F.SymbolField) (map H.Holding.held divisor.now) (map H.Holding.held remainder.old) (map H.Holding.held remainder.new) c p count }
+    requires { p + length divisor.now ≤ length remainder.old }
+    ensures { TakenOff (alphabet F.Scalar.FiniteField F.FiniteField F.SymbolField) (map H.Holding.held divisor.now) (map H.Holding.held remainder.old) (map H.Holding.held remainder.new) c p (length divisor.now) }
 {
     let mut power = c;
-    for i in 0..count {
-        let product = H::load(divisor[i]).times(power);
+    for (i, slot) in divisor.iter().enumerate() {
+        let product = H::load(*slot).times(power);
         remainder[p + i] = H::store(H::load(remainder[p + i]).plus(product.negative()));
         power = power.raise();
     }
@@ -83,7 +80,7 @@ fn step<F: SymbolField, H: Holding<F>>(
     let top = H::load(remainder[p + lead.place]);
     let c = raised(lead.inverse.times(top), lead.raises);
     quotient[p] = H::store(c);
-    take_off::<F, H>(divisor, lead.place + 1, c, remainder, p);
+    take_off::<F, H>(&divisor[..=lead.place], c, remainder, p);
 }
 
 // Divides the remainder, which holds the dividend at first, by a divisor that is not zero.
@@ -108,13 +105,10 @@ fn copy<F: FiniteField, H: Holding<F>>(coefficients: &[H::Slot], output: &mut [H
     requires { counted F.FiniteField.field (map H.Holding.held coefficients.now) ≤ length output.old }
     ensures { Same F.FiniteField.field (map H.Holding.held output.new) (map H.Holding.held coefficients.now) }
 {
-    for i in 0..output.len() {
-        output[i] = if i < coefficients.len() {
-            coefficients[i]
-        } else {
-            H::store(F::zero())
-        };
-    }
+    let n = coefficients.len().min(output.len());
+    let (front, rest) = output.split_at_mut(n);
+    front.copy_from_slice(&coefficients[..n]);
+    clear::<F, H>(rest);
 }
 
 // The refusals of a division, in the order of their numbers.

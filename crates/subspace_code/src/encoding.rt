@@ -28,19 +28,17 @@ fn check(m: usize, k: usize, l: usize, symbols: usize, places: usize) -> Result<
     Ok(())
 }
 
-// Writes the first ℓ places.
-fn write_packets<F: SymbolField>(l: usize, message: &[F], output: &mut [Packet<F>])
-    requires { (l ≤ F.SymbolField.m) × (l ≤ length output.old) }
-    ensures { output.new ≡ packets (alphabet F.Scalar.FiniteField F.FiniteField F.SymbolField) l message.now ++ drop l output.old }
+// Writes the packets of a block, as many as there are places.
+fn write_packets<F: SymbolField>(message: &[F], output: &mut [Packet<F>])
+    requires { length output.old ≤ F.SymbolField.m }
+    ensures { output.new ≡ packets (alphabet F.Scalar.FiniteField F.FiniteField F.SymbolField) (length output.old) message.now }
 {
     let q = F::q();
     let mut code: u32 = 1;
-    for i in 0..l {
-        let Some(x) = F::from_code(code) else {
-            unreachable()
-        };
+    for place in output.iter_mut() {
+        let x = F::from_code(code).unwrap();
         let y = evaluate::<F, AsSymbols>(message, x);
-        output[i] = Packet { x, y };
+        *place = Packet { x, y };
         code *= q;
     }
 }
@@ -57,6 +55,6 @@ pub fn encode<F: SymbolField>(
     ensures codewords { result ≡ Ok tt → Each (Codeword (alphabet F.Scalar.FiniteField F.FiniteField F.SymbolField) l message.now) (take l output.new) }
 {
     check(F::m(), k, l, message.len(), output.len())?;
-    write_packets(l, message, output);
+    write_packets(message, &mut output[..l]);
     Ok(())
 }

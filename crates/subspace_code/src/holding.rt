@@ -43,10 +43,7 @@ impl<F: FiniteField> Holding<F> for AsCodes {
     ghost held = { held_code F.FiniteField };
 
     fn load(slot: u32) -> F {
-        match F::from_code(slot) {
-            Some(x) => x,
-            None => F::zero(),
-        }
+        F::from_code(slot).unwrap_or(F::zero())
     }
 
     fn store(x: F) -> u32 {

@@ -49,18 +49,17 @@ fn encoding_refused(rt: HostRuntime) -> Result<(), Fail> {
 // The octets of the codes, and zeros after them.
 fn octets(rt: &impl Abort, codes: &[u32]) -> Result<[Octet; 12], Fail> {
     let mut symbols = [Octet::zero(); 12];
-    for (i, code) in codes.iter().enumerate() {
-        assert!(rt; i < 12);
-        symbols[i] = element(*code)?;
+    assert!(rt; codes.len() <= symbols.len());
+    for (symbol, code) in symbols.iter_mut().zip(codes.iter()) {
+        *symbol = element(*code)?;
     }
     Ok(symbols)
 }
 
 // The symbols have these codes, and are zero after them.
 fn same(rt: &impl Abort, symbols: &[Octet], codes: &[u32]) {
-    for (i, x) in symbols.iter().enumerate() {
-        let code = if i < codes.len() { codes[i] } else { 0 };
-        assert_eq!(rt; x.code(), code);
+    for (i, symbol) in symbols.iter().enumerate() {
+        assert_eq!(rt; symbol.code(), codes.get(i).copied().unwrap_or(0));
     }
 }
 

@@ -1,4 +1,4 @@
-use Rattle.std.proofs.Common.{◌≡◌, ◌+◌, ◌-◌, map, refl, subst, arith}
+use Rattle.std.proofs.Common.{◌≡◌, ◌+◌, ◌-◌, refl, subst, arith}
 use Rattle.field.specs.Alphabet.{Alphabet, Lawful}
 use Rattle.field.proofs.Members.{alphabet}
 use Rattle.linearized.specs.Division.{Dividing}
@@ -17,10 +17,7 @@ laws g = record { scalar_codes = g.met.F.Scalar.FiniteField.codes; codes = g.met
 pub loop-p-init : goal.loop-p-init
 unfolding A
 loop-p-init g c =
-    let held = g.H.Holding.held in
-    let remainder = map held c.args.remainder.now in
-    dividing_start (laws g) remainder (map held c.args.divisor.now) (map held c.clear.new.slots) remainder c.lead_of-lead.result.place
-    c.saturating_sub-places.result c.clear.ensures (λ n. refl) (omega (arith, c.counted_length.ensures, c.saturating_sub-places.ensures))
+    dividing_start (laws g) _ _ _ _ _ _ c.clear.ensures (λ n. refl) (omega (arith, c.counted_length.ensures, c.saturating_sub-places.ensures))
 
 pub step-requires : goal.step-requires
 step-requires g c =
@@ -31,25 +28,11 @@ step-requires g c =
 pub loop-p-preserved : goal.loop-p-preserved
 unfolding A
 loop-p-preserved g c =
-    let held = g.H.Holding.held in
-    let D = map held c.args.remainder.now in
-    let B = map held c.args.divisor.now in
-    let f = map held c.loop-p.quotient in
-    let R = map held c.loop-p.remainder in
-    let e = c.lead_of-lead.result.place in
-    let p = c.loop-p.p in
-    let place : p ≡ (p - 1) + 1 = omega arith in
-    dividing_step (laws g) D B f R e (p - 1) c.lead_of-lead.ensures.top (subst (Dividing (A g) D B f R e) place c.loop-p.invariant) (map held c.step.new.quotient)
-    (map held c.step.new.remainder) c.step.ensures
+    let place : c.loop-p.p ≡ (c.loop-p.p - 1) + 1 = omega arith in
+    dividing_step (laws g) _ _ _ _ _ _ c.lead_of-lead.ensures.top (subst (Dividing (A g) _ _ _ _ _) place c.loop-p.invariant) _ _ c.step.ensures
 
 pub returns : goal.returns
 unfolding A
 returns g c =
-    let held = g.H.Holding.held in
-    let D = map held c.args.remainder.now in
-    let B = map held c.args.divisor.now in
-    let f = map held c.loop-p.quotient in
-    let R = map held c.loop-p.remainder in
-    let e = c.lead_of-lead.result.place in
     let over : c.loop-p.p ≡ 0 = omega arith in
-    dividing_end (laws g) D B f R e c.lead_of-lead.ensures.top (subst (Dividing (A g) D B f R e) over c.loop-p.invariant)
+    dividing_end (laws g) _ _ _ _ _ c.lead_of-lead.ensures.top (subst (Dividing (A g) _ _ _ _ _) over c.loop-p.invariant)

@@ -1,4 +1,4 @@
-use Rattle.std.proofs.Common.{◌≡◌, ℕ, ◌+◌, ◌-◌, ◌*◌, ◌%◌, ◌<◌, List, map, get_or, Some, sym, ◌∙◌, subst, arith}
+use Rattle.std.proofs.Common.{◌≡◌, ℕ, ◌+◌, ◌-◌, ◌*◌, ◌%◌, ◌<◌, List, map, get_or, Some, sym, refl, ◌∙◌, subst, arith}
 use Rattle.linear.specs.Field.{Field, reciprocal}
 use Rattle.linearized.specs.Polynomials.{at, counted}
 use Rattle.subspace_code.proofs.Slots.{at_slot, counted_slots}
@@ -18,21 +18,15 @@ inverted : {S T : Type 0} (G : Field S) (held : T → S) (slots : List T) (n : �
 inverted G held slots n slot x count some is loaded =
     lead_inverse G (map held slots) (n - 1) x (omega arith) (loaded ∙ sym (at_slot G held slots (n - 1) slot (omega (arith, counted_slots G held slots)) is))
 
-pub unreachable-requires : goal.unreachable-requires
-unreachable-requires g c =
-    c.in_default.not-Some _
-    (c.inverse.ensures
-    ∙ inverted g.F.FiniteField.field g.H.Holding.held c.args.divisor.now c.counted_length-place.result c.index-divisor-place.result c.load.result
-    c.counted_length-place.ensures c.requires c.index-divisor-place.is c.load.ensures)
+pub unwrap-inverse-requires : goal.unwrap-inverse-requires
+unwrap-inverse-requires g c =
+    rw (c.inverse.ensures ∙ inverted g.F.FiniteField.field g.H.Holding.held c.args.divisor.now _ _ _ c.counted_length-place.ensures c.requires c.index-divisor-place.is c.load.ensures) refl
 
 pub returns : goal.returns
 returns g c =
-    let G = g.F.FiniteField.field in
     let n = c.counted_length-place.result in
-    let found =
-    inverted G g.H.Holding.held c.args.divisor.now n c.index-divisor-place.result c.load.result
-    c.counted_length-place.ensures c.requires c.index-divisor-place.is c.load.ensures in
-    let both = c.in-Some.ensures ∙ found in
+    let found = inverted g.F.FiniteField.field g.H.Holding.held c.args.divisor.now _ _ _ c.counted_length-place.ensures c.requires c.index-divisor-place.is c.load.ensures in
+    let both = sym c.unwrap-inverse.ensures ∙ c.inverse.ensures ∙ found in
     record {
       top = omega (arith, c.requires, c.counted_length-place.ensures);
       inverts = cc;

@@ -1,23 +1,16 @@
-use Rattle.std.proofs.Common.{◌≡◌, ◌+◌, map, set, sym, refl, ap, ◌∙◌, subst, ap₂, arith}
+use Rattle.std.proofs.Common.{◌≡◌, ◌+◌, map, set, sym, ap, ◌∙◌, ap₂, arith}
 use Rattle.linear.specs.Field.{iterate}
 use Rattle.field.specs.Alphabet.{Alphabet}
 use Rattle.field.proofs.Members.{alphabet}
 use Rattle.linearized.specs.Polynomials.{at}
-use Rattle.subspace_code.specs.Dividing.{TakenOff}
 use Rattle.subspace_code.proofs.Sums.{iterate_more}
 use Rattle.subspace_code.proofs.Slots.{at_slot, at_written, at_unwritten}
-use Rattle.subspace_code.proofs.Quotients.{taken_none, taken_more}
+use Rattle.subspace_code.proofs.Quotients.{taken_more}
 use Rattle.subspace_code.proofs.division.take_off.Given as given
 use Rattle.subspace_code.proofs.division.take_off.Goals as goal
 
 A : (g : given.Over) → Alphabet g.row.F-Scalar.Denot g.row.F.Denot
 A g = alphabet g.F.Scalar.FiniteField g.F.FiniteField g.F.SymbolField
-
-pub loop-i-init : goal.loop-i-init
-unfolding A
-loop-i-init g c =
-    let held = g.H.Holding.held in
-    (refl, taken_none (A g) (map held c.args.divisor.now) (map held c.args.remainder.now) c.args.c c.args.p)
 
 pub loop-i-preserved : goal.loop-i-preserved
 unfolding A
@@ -42,10 +35,3 @@ loop-i-preserved g c =
           (map held (set remainder (p + i) c.store.result)) i c.loop-i.invariant.1 (at_written G held remainder (p + i) c.store.result (omega arith) ∙ here)
           (at_unwritten G held remainder (p + i) c.store.result),
     )
-
-pub returns : goal.returns
-unfolding A
-returns g c =
-    let held = g.H.Holding.held in
-    let e : c.loop-i.i ≡ c.args.count = omega arith in
-    subst (TakenOff (A g) (map held c.args.divisor.now) (map held c.args.remainder.now) (map held c.loop-i.remainder) c.args.c c.args.p) e c.loop-i.invariant.1

@@ -1,4 +1,4 @@
-use Rattle.std.proofs.Common.{◌≤◌, take, drop, sym, ap, ◌∙◌, subst, rules}
+use Rattle.std.proofs.Common.{◌≡◌, ◌≤◌, length, take, drop, sym, ap, ◌∙◌, subst, arith, rules, length-take}
 use Rattle.std.proofs.lemmas.List.{take_at}
 use Rattle.std.proofs.lemmas.List.FromFn.{length-map-range_with_len}
 use Rattle.linear.specs.Span.{Each}
@@ -16,15 +16,15 @@ laws : (g : given.Over) → Lawful (A g)
 unfolding A
 laws g = record { scalar_codes = g.met.F.Scalar.FiniteField.codes; codes = g.met.F.FiniteField.codes; extension = g.met.F.SymbolField.extension }
 
-pub returns : goal.returns
+pub returns-clause-codewords : goal.returns-clause-codewords
 unfolding A
-returns g c =
+returns-clause-codewords g c _ =
     let ℓ = c.args.l in
     let u = c.args.message.now in
     let small : ℓ ≤ g.F.SymbolField.m = search rules in
-    let front = take_at (packets (A g) ℓ u) (drop ℓ c.args.output.now) ℓ (length-map-range_with_len (λ i. packet_at (A g) u (basis (A g) i)) 0 ℓ) in
-    record {
-      answer = search rules;
-      output = search rules;
-      codewords = λ _. subst (Each (Codeword (A g) ℓ u)) (sym (ap (take ℓ) c.write_packets.ensures ∙ front)) (packets_codewords (A g) (laws g) ℓ u small);
-    }
+    let room : ℓ ≤ length c.args.output.now = search rules in
+    let many : length (take ℓ c.args.output.now) ≡ ℓ = simp length-take (omega arith) in
+    let sent : c.write_packets.new.output ≡ packets (A g) ℓ u = c.write_packets.ensures ∙ ap (λ n. packets (A g) n u) many in
+    let front =
+    take_at c.write_packets.new.output (drop ℓ c.args.output.now) ℓ (ap length sent ∙ length-map-range_with_len (λ i. packet_at (A g) u (basis (A g) i)) 0 ℓ) in
+    subst (Each (Codeword (A g) ℓ u)) (sym (front ∙ sent)) (packets_codewords (A g) (laws g) ℓ u small)

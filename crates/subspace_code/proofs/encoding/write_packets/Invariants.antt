@@ -4,7 +4,7 @@ use Rattle.field.proofs.Members.{alphabet}
 use Rattle.linearized.specs.Code.{packets}
 use Rattle.subspace_code.proofs.encoding.write_packets.Given as goal
 
-abbrev pub invariant-loop-i : goal.invariant-loop-i
-invariant-loop-i g l =
-    (l.code ≡ g.F.SymbolField.q ^ l.i)
-    × (l.output ≡ packets (alphabet g.F.Scalar.FiniteField g.F.FiniteField g.F.SymbolField) l.i l.message ++ drop l.i l.initial.output)
+abbrev pub invariant-loop-place : goal.invariant-loop-place
+invariant-loop-place g l =
+    (l.code ≡ g.F.SymbolField.q ^ l.place-index)
+    × (l.output ≡ packets (alphabet g.F.Scalar.FiniteField g.F.FiniteField g.F.SymbolField) l.place-index l.message ++ drop l.place-index l.initial.output)

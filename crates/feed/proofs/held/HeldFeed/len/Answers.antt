@@ -1,6 +1,6 @@
-use Rattle.std.proofs.Common.{arith}
-use Rattle.feed.specs.Lengths.{held_length}
+use Rattle.std.proofs.Common.{length, ap, sym}
+use Rattle.feed.proofs.Steps.{held_whole}
 use Rattle.feed.proofs.held.HeldFeed.len.Goals as goal
 
 pub returns : goal.returns
-returns g c = let e = held_length c.args.self.now.at c.args.self.now.packets.now in omega arith
+returns g c = rw (← c.self.view_is) (ap length (sym (held_whole _ c.self.invariant)))

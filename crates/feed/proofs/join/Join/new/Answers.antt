@@ -1,6 +1,8 @@
-use Rattle.std.proofs.Common.{rules}
-use Rattle.feed.proofs.Steps.{join_fresh}
+use Rattle.std.proofs.Common.{refl}
+use Rattle.feed.specs.Layers.{joined}
+use Rattle.feed.specs.Lists.{join_from}
 use Rattle.feed.proofs.join.Join.new.Goals as goal
 
-pub returns : goal.returns
-returns g c = record { list = join_fresh _ _; lower = search rules }
+pub returns-clause-list : goal.returns-clause-list
+unfolding join_from joined
+returns-clause-list g c = refl
