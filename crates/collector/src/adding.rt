@@ -13,8 +13,8 @@ use field::FiniteField;
 
 // The first place from `from` on at which the row is not zero, or the width.
 pub(crate) fn leading<R: Row>(row: R, from: usize) -> usize
-    requires { from ≤ R.Row.rows.width }
-    ensures { FirstFrom R.Scalar.FiniteField.field R.Row.rows row from result }
+    requires { from ≤ R.rows.width }
+    ensures { FirstFrom R.Scalar.field R.rows row from result }
 {
     let width = R::width();
     (from..width)
@@ -24,15 +24,15 @@ pub(crate) fn leading<R: Row>(row: R, from: usize) -> usize
 
 // `row` less `c` times `other`.
 fn less<R: Row>(row: R, c: R::Scalar, other: R) -> R
-    ensures { result ≡ minus R.Scalar.FiniteField.field R.Row.rows row c other }
+    ensures { result ≡ minus R.Scalar.field R.rows row c other }
 {
     row.plus(other.scaled(c.negative()))
 }
 
 // What is left of `row` when the reduced rows have taken what they lead.
 fn remainder<R: Row>(rows: &[R], row: R) -> R
-    requires { Reduced R.Scalar.FiniteField.field R.Row.rows rows.now }
-    ensures { Remains R.Scalar.FiniteField.field R.Row.rows rows.now row result }
+    requires { Reduced R.Scalar.field R.rows rows.now }
+    ensures { Remains R.Scalar.field R.rows rows.now row result }
 {
     let mut rest = row;
     let mut from = 0;
@@ -46,8 +46,8 @@ fn remainder<R: Row>(rows: &[R], row: R) -> R
 
 // How many of the reduced rows lead before place p.
 fn slot<R: Row>(rows: &[R], p: usize) -> usize
-    requires { Reduced R.Scalar.FiniteField.field R.Row.rows rows.now }
-    ensures { Slot R.Scalar.FiniteField.field R.Row.rows rows.now p result }
+    requires { Reduced R.Scalar.field R.rows rows.now }
+    ensures { Slot R.Scalar.field R.rows rows.now p result }
 {
     let mut from = 0;
     for (k, row) in rows.iter().enumerate() {
@@ -62,7 +62,7 @@ fn slot<R: Row>(rows: &[R], p: usize) -> usize
 
 // Makes rows zero at place p, where `unit` is one.
 fn clear<R: Row>(rows: &mut [R], p: usize, unit: R)
-    ensures { rows.new ≡ map (cleared R.Scalar.FiniteField.field R.Row.rows unit p) rows.old }
+    ensures { rows.new ≡ map (cleared R.Scalar.field R.rows unit p) rows.old }
 {
     for row in rows.iter_mut() {
         *row = less(*row, row.coordinate(p), unit);
@@ -80,9 +80,9 @@ fn insert<R: Copy>(rows: &mut [R], at: usize, n: usize, row: R)
 
 // Adds `row` to the span of a window of dimension `dim`. Answers the dimension, and whether it rose.
 pub(crate) fn add_row<R: Row>(rows: &mut [R], dim: usize, row: R) -> Taken
-    requires window { Window R.Scalar.FiniteField.field R.Row.rows dim rows.old }
-    requires room { (Span R.Row.rows rows.old row → ⊥) → dim < length rows.old }
-    ensures added { Added R.Scalar.FiniteField.field R.Row.rows dim row rows.old rows.new result.dimension result.rose }
+    requires window { Window R.Scalar.field R.rows dim rows.old }
+    requires room { (Span R.rows rows.old row → ⊥) → dim < length rows.old }
+    ensures added { Added R.Scalar.field R.rows dim row rows.old rows.new result.dimension result.rose }
 {
     let rest = remainder(&rows[..dim], row);
     let p = leading(rest, 0);

@@ -20,8 +20,6 @@ impl<F: FiniteField> Model for CodeRow<F> {
 
     ghost Value = { F };
 
-    ghost coded = { F.code };
-
     ghost view = { λ r. F.FiniteField.element r.code };
 
     // the code is that of a symbol

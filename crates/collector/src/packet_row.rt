@@ -18,8 +18,7 @@ impl<F: SymbolField> Row for Packet<F> {
     ghost narrow = { Prim.search rules };
 
     fn width() -> usize {
-        let m = F::m();
-        m + m
+        2 * F::m()
     }
 
     fn plus(self, other: Packet<F>) -> Packet<F> {

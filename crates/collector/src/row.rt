@@ -22,7 +22,7 @@ pub(crate) trait Row: Copy {
     fn coordinate(self, i: usize) -> Self::Scalar
         ensures { result ≡ rows.coord self i };
 
-    ghost laws: { RowLaws Self.Scalar.FiniteField.field rows };
+    ghost laws: { RowLaws Self.Scalar.field rows };
 
     ghost narrow: { rows.width < 2 ^ 64 };
 }

@@ -13,13 +13,13 @@ use packet::Packet;
 
 // Whether every row is zero at place p.
 fn zero_at<R: Row>(rows: &[R], p: usize) -> bool
-    ensures { (result ≡ true) ↔ Each (λ v. R.Row.rows.coord v p ≡ R.Scalar.FiniteField.field.zero) rows.now }
+    ensures { (result ≡ true) ↔ Each (λ v. R.rows.coord v p ≡ R.Scalar.field.zero) rows.now }
 {
     rows.iter().all(|row| is_zero(row.coordinate(p)))
 }
 
 pub(crate) fn is_reduced<R: Row>(rows: &[R]) -> bool
-    ensures { (result ≡ true) ↔ Reduced R.Scalar.FiniteField.field R.Row.rows rows.now }
+    ensures { (result ≡ true) ↔ Reduced R.Scalar.field R.rows rows.now }
 {
     let mut from = 0;
     for (k, row) in rows.iter().enumerate() {
@@ -34,7 +34,7 @@ pub(crate) fn is_reduced<R: Row>(rows: &[R]) -> bool
 
 // Whether every row is zero.
 fn all_zero<R: Row>(rows: &[R]) -> bool
-    ensures { (result ≡ true) ↔ Each (λ v. v ≡ R.Row.rows.none) rows.now }
+    ensures { (result ≡ true) ↔ Each (λ v. v ≡ R.rows.none) rows.now }
 {
     let width = R::width();
     rows.iter().all(|row| leading(*row, 0) == width)
