@@ -1,6 +1,5 @@
 pub mod HeldPolynomials
 pub mod Moves
-pub mod Vectors
 pub mod LeadingPlaces
 pub mod Remainders
 pub mod Inserting

@@ -1,9 +1,9 @@
 -- Residuals added one by one to a window of symbols: the window's dimension measures the message.
-use Rattle.std.proofs.Common.{◌≡◌, ℕ, zero as 0ₙ, suc, ◌+◌, ◌<◌, ◌≤◌, Bool, List, [], ◌∷◌, ◌++◌, map, length, get_or, take, replicate, sym, ap, ◌∙◌, subst}
+use Rattle.std.proofs.Common.{◌≡◌, ℕ, ◌+◌, ◌<◌, ◌≤◌, Bool, List, [], ◌∷◌, ◌++◌, map, length, get_or, take, replicate, sym, ap, ◌∙◌, subst}
 use Rattle.std.proofs.lemmas.List.{map_more, take_all}
 use Rattle.linear.specs.Rows.{Rows, RowLaws}
 use Rattle.linear.specs.Field.{Field}
-use Rattle.linear.specs.Span.{Each, Span, SameSpan, IsDim}
+use Rattle.linear.specs.Span.{Span, SameSpan, IsDim}
 use Rattle.linear.proofs.Spans.{within_nil, within_cons, within_trans, within_skip, within_append, within_left, within_right, within_all, within_same, span_head, span_trans, from_span, to_span}
 use Rattle.linear.proofs.Dims.{dim_same}
 use Rattle.field.specs.Alphabet.{Alphabet, Lawful, symbol_rows}
@@ -13,10 +13,6 @@ use Rattle.linearized.specs.Code.{residual}
 use Rattle.collector.specs.Windows.{Window, Added}
 use Rattle.collector.proofs.Windows.{window_dim, window_span}
 use Rattle.collector.proofs.Room.{window_zero, width_room}
-
-pub each_replicate : {X : Type 0} (P : X → Type 0) (n : ℕ) (x : X) → P x → Each P (replicate n x)
-each_replicate P 0ₙ x h = tt
-each_replicate P (suc n) x h = (h, each_replicate P n x h)
 
 module _ {K V : Type 0} {F : Field K} {R : Rows K V} (laws : RowLaws F R) where
   -- a row in front of one of two lists with one span, and after the other
@@ -34,14 +30,11 @@ pub record Measuring {K S : Type 0} (A : Alphabet K S) (u : List S) (L : List (P
   pub spans : SameSpan (symbol_rows A) V (map (residual A u) (take i L))
 
 module _ {K S : Type 0} {A : Alphabet K S} (laws : Lawful A) (u : List S) (L : List (Packet S)) where
-  -- n rows of code zero
-  pub measuring_start : (n : ℕ) → Measuring A u L 0 0 (replicate n (A.element 0))
+  -- n rows of zero
+  pub measuring_start : (n : ℕ) → Measuring A u L 0 0 (replicate n A.symbols.zero)
   measuring_start n =
-      let none : A.element 0 ≡ A.symbols.zero = ap A.element (sym laws.codes.code_zero) ∙ laws.codes.element_code A.symbols.zero in
-      subst (λ z. Measuring A u L 0 0 (replicate n z)) (sym none) (record { window = zeros; spans = λ v. ((window_span (symbol_laws laws) zeros v).1, (window_span (symbol_laws laws) zeros v).0) })
-    where
-      zeros : Window A.scalars (symbol_rows A) 0 (replicate n A.symbols.zero)
-      zeros = window_zero (symbol_laws laws) n
+      let zeros : Window A.scalars (symbol_rows A) 0 (replicate n A.symbols.zero) = window_zero (symbol_laws laws) n in
+      record { window = zeros; spans = λ v. ((window_span (symbol_laws laws) zeros v).1, (window_span (symbol_laws laws) zeros v).0) }
 
   -- m rows suffice
   pub measuring_room : {i d : ℕ} {V : List S} {v : S} → Measuring A u L i d V → A.m ≤ length V → ¬ Span (symbol_rows A) V v → d < length V

@@ -1,14 +1,15 @@
 -- What row adding leaves: the window as it was, or with one row more.
-use Rattle.std.proofs.Common.{◌≡◌, ℕ, zero, suc, ◌+◌, ◌-◌, ◌<◌, ◌≤◌, true, false, List, [], ◌∷◌, ◌++◌, map, length, get_or, take, drop, sym, refl, ap, ◌∙◌, subst, add-one, arith, length-append, length-drop}
+use Rattle.std.proofs.Common.{◌≡◌, ℕ, zero, suc, ◌+◌, ◌-◌, ◌<◌, ◌≤◌, true, false, Some, List, [], ◌∷◌, ◌++◌, map, length, get_or, take, drop, sym, refl, ap, ◌∙◌, subst, add-one, arith, length-append, length-drop}
 use native.Mathlib.Decide.{dec_lt, ℕ_discrete}
 use lib.ListN.{length-map}
 use borrow.Author.Tests.{clash}
 use Rattle.std.proofs.lemmas.List.{length-take-le, take_at, get_or-append_right, get_or-drop}
-use Rattle.linear.specs.Field.{Field}
+use Rattle.linear.specs.Field.{Field, reciprocal}
 use Rattle.linear.specs.Rows.{Rows, RowLaws, cleared}
 use Rattle.linear.specs.Span.{Span, IsDim}
 use Rattle.linear.specs.Reduced.{Reduced}
 use Rattle.linear.proofs.Each.{each_from}
+use Rattle.linear.proofs.Fields.{reciprocal_some}
 use Rattle.linear.proofs.Rows.{plus_none}
 use Rattle.linear.proofs.Spans.{InSpan, Within, from_span, within_trans, within_head, within_same}
 use Rattle.linear.proofs.Dims.{dim_known, dim_more, span_known}
@@ -137,3 +138,15 @@ module _ {K V : Type 0} {F : Field K} {R : Rows K V} (laws : RowLaws F R) where
         outside = (λ t. out, λ o. refl);
         same = λ t. absurd (clash (sym t));
       }
+
+  -- a row that has an inverse at its first place is not zero there
+  pub first_inverse : {r : V} {p : ℕ} {x y : K} → FirstFrom F R r 0 p → x ≡ coord r p → reciprocal F x ≡ Some y → First F R r p
+  first_inverse {x = x} {y = y} f e i = first_some f (λ z. (reciprocal_some F x y i).0 (e ∙ z))
+
+  -- the remainder times its inverse put in its slot
+  pub added_placed : {d p i : ℕ} {L M : List V} {v r u : V} {x y : K} → Window F R d L → Remains F R (take d L) v r → FirstFrom F R r 0 p → x ≡ coord r p → reciprocal F x ≡ Some y
+      → u ≡ times y r → Slot F R (take d L) p i → (¬ Span R L v → d < length L) → M ≡ placed u p i (take d L) ++ drop (d + 1) L → Added F R d v L M (d + 1) true
+  added_placed {d} {p} {i} {L} {M} {v} {r} {u} {x} {y} w left f e chosen scaled slot room put =
+      let first = first_inverse f e chosen in
+      let unit : u ≡ times (F.inv (coord r p)) r = scaled ∙ ap (λ s. times s r) ((reciprocal_some F x y chosen).1 ∙ ap F.inv e) in
+      added_some w left first slot (room (window_outside w left first)) M (put ∙ ap (λ z. placed z p i (take d L) ++ drop (d + 1) L) unit)

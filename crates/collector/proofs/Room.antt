@@ -2,9 +2,9 @@
 use Rattle.std.proofs.Common.{◌≡◌, ℕ, zero, suc, ◌+◌, ◌<◌, ◌≤◌, Bool, List, [], ◌∷◌, length, get_or, take, replicate, refl, arith}
 use Rattle.linear.specs.Field.{Field}
 use Rattle.linear.specs.Rows.{Rows, RowLaws}
-use Rattle.linear.specs.Span.{Each, Span, Spans}
+use Rattle.linear.specs.Span.{Span, Spans}
 use Rattle.linear.specs.Reduced.{ReducedForm}
-use Rattle.linear.proofs.Each.{each_from, each_every}
+use Rattle.linear.proofs.Each.{each_from}
 use Rattle.linear.proofs.Spans.{to_span, span_at}
 use Rattle.linear.proofs.Dims.{dim_more}
 use Rattle.linear.proofs.Forms.{dim_width}
@@ -47,7 +47,3 @@ module _ {K S : Type 0} {A : Alphabet K S} (laws : Lawful A) (ℓ : ℕ) (fits :
     each_from (HeaderBelow A ℓ) (packet_rows A).none M (λ i h.
         (headers_bound laws ℓ fits (p ∷ L) (hp, hs)).headers (get_or M i (packet_rows A).none) ((a.spans (get_or M i (packet_rows A).none)).1 (to_span (span_at (packet_laws laws) M i h)))),
   )
-
--- every packet is a valid row
-pub packets_valid : {S : Type 0} (L : List (Packet S)) → Each (λ _. Unit {0}) L
-packets_valid L = each_every (λ _. Unit {0}) L (λ _. tt)

@@ -2,28 +2,39 @@
 use Rattle.std.proofs.Common.{◌≡◌, ℕ, zero, suc, ◌+◌, ◌-◌, ◌<◌, ◌≤◌, List, [], ◌∷◌, ◌++◌, length, get_or, take, drop, sym, ap, ◌∙◌, subst, ap₂, arith, length-drop}
 use native.Mathlib.Decide.{dec_lt}
 use Rattle.std.proofs.lemmas.List.{length-take-le, take-append-drop, get_or-drop, get_or_past, get_or_default, same_lists}
+use Rattle.std.specs.List.{IsSplitAt}
 use Rattle.linear.specs.Field.{Field}
 use Rattle.linear.specs.Rows.{Rows, RowLaws}
 use Rattle.linear.specs.Span.{Each, Span, SameSpan, IsDim}
+use Rattle.linear.specs.Reduced.{Reduced}
 use Rattle.linear.proofs.Each.{each_at, each_from}
 use Rattle.linear.proofs.Spans.{span_nil, Within, within_nil, within_cons, within_head, within_same}
 use Rattle.linear.proofs.Dims.{dim_unique, dim_same}
 use Rattle.linear.proofs.Forms.{reduced_dim, reduced_unique}
 use Rattle.collector.specs.Windows.{Window}
 
--- the zeros of a window, by their places and one by one
-module _ {V : Type 0} (none : V) where
-  pub zeros_from : (d : ℕ) (L : List V) → Each (λ v. v ≡ none) (drop d L) → (i : ℕ) → d ≤ i → get_or L i none ≡ none
-  zeros_from d L z i h =
-      let e : d + (i - d) ≡ i = omega arith in
-      ap (λ j. get_or L j none) (sym e) ∙ sym (get_or-drop d L (i - d) none) ∙ at (dec_lt (i - d) (length (drop d L)))
-    where
-      at : Dec (i - d < length (drop d L)) → get_or (drop d L) (i - d) none ≡ none
-      at (yes l) = each_at (λ v. v ≡ none) none (drop d L) z (i - d) l
-      at (no l) = get_or_past (drop d L) (i - d) none (omega arith)
+-- a list split at d is a window exactly if the first part is reduced and the second is zeros
+module _ {K V : Type 0} (F : Field K) (R : Rows K V) (d : ℕ) (L first rest : List V) (split : IsSplitAt L d first rest) where
+  open R use {none}
 
-  pub zeros_to : (d : ℕ) (L : List V) → ((i : ℕ) → d ≤ i → get_or L i none ≡ none) → Each (λ v. v ≡ none) (drop d L)
-  zeros_to d L z = each_from (λ v. v ≡ none) none (drop d L) (λ j h. get_or-drop d L j none ∙ z (d + j) (omega arith))
+  pub window_made : Reduced F R first → Each (λ v. v ≡ none) rest → Window F R d L
+  window_made red z = record {
+    within = split.0;
+    reduced = subst (Reduced F R) split.1 red;
+    zeros = λ i h.
+        let e : d + (i - d) ≡ i = omega arith in
+        ap (λ j. get_or L j none) (sym e) ∙ sym (get_or-drop d L (i - d) none) ∙ ap (λ M. get_or M (i - d) none) (sym split.2) ∙ at (i - d) (dec_lt (i - d) (length rest));
+  }
+    where
+      at : (j : ℕ) → Dec (j < length rest) → get_or rest j none ≡ none
+      at j (yes l) = each_at (λ v. v ≡ none) none rest z j l
+      at j (no l) = get_or_past rest j none (omega arith)
+
+  pub window_parts : Window F R d L → Reduced F R first × Each (λ v. v ≡ none) rest
+  window_parts w = (
+    subst (Reduced F R) (sym split.1) w.reduced,
+    each_from (λ v. v ≡ none) none rest (λ j h. ap (λ M. get_or M j none) split.2 ∙ get_or-drop d L j none ∙ w.zeros (d + j) (omega arith)),
+  )
 
 module _ {K V : Type 0} {F : Field K} {R : Rows K V} (laws : RowLaws F R) where
   open R use {none}

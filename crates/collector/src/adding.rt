@@ -8,38 +8,31 @@ ghost use Rattle.collector.specs.Windows.{Window, Added};
 
 use crate::row::Row;
 use crate::scalar::is_zero;
+use answer::Taken;
 use field::FiniteField;
 
 // The first place from `from` on at which the row is not zero, or the width.
-pub(crate) fn leading<R: Row + Copy>(row: R, from: usize) -> usize
-    requires { (R.Row.valid row) × (from ≤ R.Row.rows.width) }
-    ensures { FirstFrom R.Scalar.FiniteField.field R.Row.rows (R.Row.vector row) from result }
+pub(crate) fn leading<R: Row>(row: R, from: usize) -> usize
+    requires { from ≤ R.rows.width }
+    ensures { FirstFrom R.Scalar.field R.rows row from result }
 {
     let width = R::width();
-    for i in from..width {
-        if !is_zero(row.coordinate(i)) {
-            return i;
-        }
-    }
-    width
+    (from..width)
+        .find(|i| !is_zero(row.coordinate(*i)))
+        .unwrap_or(width)
 }
 
 // `row` less `c` times `other`.
-fn less<R: Row + Copy>(row: R, c: R::Scalar, other: R) -> R
-    requires { (R.Row.valid row) × (R.Row.valid other) }
-    ensures valid { R.Row.valid result }
-    ensures minus { R.Row.vector result ≡ minus R.Scalar.FiniteField.field R.Row.rows (R.Row.vector row) c (R.Row.vector other) }
+fn less<R: Row>(row: R, c: R::Scalar, other: R) -> R
+    ensures { result ≡ minus R.Scalar.field R.rows row c other }
 {
     row.plus(other.scaled(c.negative()))
 }
 
 // What is left of `row` when the reduced rows have taken what they lead.
-fn remainder<R: Row + Copy>(rows: &[R], row: R) -> R
-    requires reduced { Reduced R.Scalar.FiniteField.field R.Row.rows (R.Row.vectors rows.now) }
-    requires valid { Each R.Row.valid rows.now }
-    requires fine { R.Row.valid row }
-    ensures valid { R.Row.valid result }
-    ensures left { Remains R.Scalar.FiniteField.field R.Row.rows (R.Row.vectors rows.now) (R.Row.vector row) (R.Row.vector result) }
+fn remainder<R: Row>(rows: &[R], row: R) -> R
+    requires { Reduced R.Scalar.field R.rows rows.now }
+    ensures { Remains R.Scalar.field R.rows rows.now row result }
 {
     let mut rest = row;
     let mut from = 0;
@@ -52,14 +45,13 @@ fn remainder<R: Row + Copy>(rows: &[R], row: R) -> R
 }
 
 // How many of the reduced rows lead before place p.
-fn slot<R: Row + Copy>(rows: &[R], p: usize) -> usize
-    requires reduced { Reduced R.Scalar.FiniteField.field R.Row.rows (R.Row.vectors rows.now) }
-    requires valid { Each R.Row.valid rows.now }
-    ensures { Slot R.Scalar.FiniteField.field R.Row.rows (R.Row.vectors rows.now) p result }
+fn slot<R: Row>(rows: &[R], p: usize) -> usize
+    requires { Reduced R.Scalar.field R.rows rows.now }
+    ensures { Slot R.Scalar.field R.rows rows.now p result }
 {
     let mut from = 0;
-    for k in 0..rows.len() {
-        let q = leading(rows[k], from);
+    for (k, row) in rows.iter().enumerate() {
+        let q = leading(*row, from);
         if p <= q {
             return k;
         }
@@ -68,17 +60,12 @@ fn slot<R: Row + Copy>(rows: &[R], p: usize) -> usize
     rows.len()
 }
 
-// Makes the first n rows zero at place p, where `unit` is one.
-fn clear<R: Row + Copy>(rows: &mut [R], n: usize, p: usize, unit: R)
-    requires within { n ≤ length rows.old }
-    requires valid { Each R.Row.valid rows.old }
-    requires fine { R.Row.valid unit }
-    ensures valid { Each R.Row.valid rows.new }
-    ensures cleared { R.Row.vectors rows.new ≡ map (cleared R.Scalar.FiniteField.field R.Row.rows (R.Row.vector unit) p) (take n (R.Row.vectors rows.old)) ++ drop n (R.Row.vectors rows.old) }
+// Makes rows zero at place p, where `unit` is one.
+fn clear<R: Row>(rows: &mut [R], p: usize, unit: R)
+    ensures { rows.new ≡ map (cleared R.Scalar.field R.rows unit p) rows.old }
 {
-    for k in 0..n {
-        let old = rows[k];
-        rows[k] = less(old, old.coordinate(p), unit);
+    for row in rows.iter_mut() {
+        *row = less(*row, row.coordinate(p), unit);
     }
 }
 
@@ -88,27 +75,29 @@ fn insert<R: Copy>(rows: &mut [R], at: usize, n: usize, row: R)
     ensures { rows.new ≡ take at rows.old ++ (row ∷ take (n - at) (drop at rows.old)) ++ drop (n + 1) rows.old }
 {
     rows[n] = row;
-    let part = &mut rows[at..n + 1];
-    part.rotate_right(1);
+    rows[at..=n].rotate_right(1);
 }
 
 // Adds `row` to the span of a window of dimension `dim`. Answers the dimension, and whether it rose.
-pub(crate) fn add_row<R: Row + Copy>(rows: &mut [R], dim: usize, row: R) -> (usize, bool)
-    requires window { Window R.Scalar.FiniteField.field R.Row.rows dim (R.Row.vectors rows.old) }
-    requires valid { Each R.Row.valid rows.old }
-    requires fine { R.Row.valid row }
-    requires room { (Span R.Row.rows (R.Row.vectors rows.old) (R.Row.vector row) → ⊥) → dim < length rows.old }
-    ensures valid { Each R.Row.valid rows.new }
-    ensures added { Added R.Scalar.FiniteField.field R.Row.rows dim (R.Row.vector row) (R.Row.vectors rows.old) (R.Row.vectors rows.new) result.0 result.1 }
+pub(crate) fn add_row<R: Row>(rows: &mut [R], dim: usize, row: R) -> Taken
+    requires window { Window R.Scalar.field R.rows dim rows.old }
+    requires room { (Span R.rows rows.old row → ⊥) → dim < length rows.old }
+    ensures added { Added R.Scalar.field R.rows dim row rows.old rows.new result.dimension result.rose }
 {
-    let rest = remainder(&rows[0..dim], row);
+    let rest = remainder(&rows[..dim], row);
     let p = leading(rest, 0);
     let Some(inverse) = rest.coordinate(p).inverse() else {
-        return (dim, false);
+        return Taken {
+            dimension: dim,
+            rose: false,
+        };
     };
     let unit = rest.scaled(inverse);
-    let at = slot(&rows[0..dim], p);
-    clear(rows, at, p, unit);
+    let at = slot(&rows[..dim], p);
+    clear(&mut rows[..at], p, unit);
     insert(rows, at, dim, unit);
-    (dim + 1, true)
+    Taken {
+        dimension: dim + 1,
+        rose: true,
+    }
 }

@@ -7,10 +7,8 @@ ghost use Rattle.collector.specs.Interpolation.{polynomial};
 
 use crate::adding::add_row;
 use crate::code_row::CodeRow;
-use crate::row::Row;
 use field::{FiniteField, SymbolField};
 use packet::Packet;
-use std::marker::PhantomData;
 use subspace_code::evaluation::evaluate;
 use subspace_code::holding::AsCodes;
 
@@ -19,30 +17,21 @@ const COORDINATES: usize = 16;
 
 // y − f(x), as a row.
 fn residual_row<F: SymbolField>(message: &[u32], packet: Packet<F>) -> CodeRow<F>
-    ensures valid { result.code < F.FiniteField.size }
-    ensures symbol { F.FiniteField.element result.code ≡ residual (alphabet F.Scalar.FiniteField F.FiniteField F.SymbolField) (polynomial (alphabet F.Scalar.FiniteField F.FiniteField F.SymbolField) message.now) packet }
+    ensures { result ≡ residual (alphabet F.Scalar.FiniteField F.FiniteField F.SymbolField) (polynomial (alphabet F.Scalar.FiniteField F.FiniteField F.SymbolField) message.now) packet }
 {
     let value: F = evaluate::<F, AsCodes>(message, packet.x);
-    CodeRow {
-        code: packet.y.plus(value.negative()).code(),
-        of: PhantomData,
-    }
+    CodeRow::new(packet.y.plus(value.negative()))
 }
 
 // The dimension of the residuals y − f(x) of the packets.
 pub(crate) fn measure<F: SymbolField>(message: &[u32], packets: &[Packet<F>]) -> usize
     ensures { IsDim (symbol_rows (alphabet F.Scalar.FiniteField F.FiniteField F.SymbolField)) (Span (symbol_rows (alphabet F.Scalar.FiniteField F.FiniteField F.SymbolField)) (map (residual (alphabet F.Scalar.FiniteField F.FiniteField F.SymbolField) (polynomial (alphabet F.Scalar.FiniteField F.FiniteField F.SymbolField) message.now)) packets.now)) result }
 {
-    let none: CodeRow<F> = CodeRow {
-        code: 0,
-        of: PhantomData,
-    };
-    let mut rows = [none; COORDINATES];
+    let mut rows = [CodeRow::new(F::zero()); COORDINATES];
     let mut dimension = 0;
     for packet in packets {
         let row = residual_row(message, *packet);
-        let (risen, _) = add_row(&mut rows, dimension, row);
-        dimension = risen;
+        dimension = add_row(&mut rows, dimension, row).dimension;
     }
     dimension
 }

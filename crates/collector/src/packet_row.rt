@@ -2,8 +2,7 @@
 ghost use Rattle.field.specs.Alphabet.{alphabet};
 ghost use Rattle.packet.specs.Packets.{packet_rows};
 ghost use Rattle.packet.proofs.Packets.{packet_laws};
-ghost use Rattle.std.proofs.Common.{sym, rules};
-ghost use Rattle.std.proofs.lemmas.List.{map-id};
+ghost use Rattle.std.proofs.Common.{rules};
 
 use crate::row::Row;
 use field::{FiniteField, SymbolField};
@@ -12,25 +11,14 @@ use packet::Packet;
 impl<F: SymbolField> Row for Packet<F> {
     type Scalar = F::Scalar;
 
-    type Vector = Packet<F>;
-
     ghost rows = { packet_rows (alphabet F.Scalar.FiniteField F.FiniteField F.SymbolField) };
-
-    ghost valid = { λ _. Unit {0} };
-
-    ghost vector = { λ p. p };
-
-    ghost vectors = { λ ps. ps };
 
     ghost laws = { packet_laws (record { scalar_codes = F.Scalar.FiniteField.codes; codes = F.FiniteField.codes; extension = F.SymbolField.extension }) };
 
     ghost narrow = { Prim.search rules };
 
-    ghost each = { λ ps. sym (map-id ps) };
-
     fn width() -> usize {
-        let m = F::m();
-        m + m
+        2 * F::m()
     }
 
     fn plus(self, other: Packet<F>) -> Packet<F> {

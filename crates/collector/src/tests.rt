@@ -21,8 +21,7 @@ fn reduce<F: SymbolField>(rows: &mut [Packet<F>], packets: &[Packet<F>]) -> usiz
         return 0;
     }
     for packet in packets {
-        let (now, _) = add_row(rows, dimension, *packet);
-        dimension = now;
+        dimension = add_row(rows, dimension, *packet).dimension;
     }
     dimension
 }

@@ -12,27 +12,19 @@ use field::{FiniteField, SymbolField};
 use packet::Packet;
 
 // Whether every row is zero at place p.
-fn zero_at<R: Row + Copy>(rows: &[R], p: usize) -> bool
-    requires { Each R.Row.valid rows.now }
-    ensures { (result ≡ true) ↔ Each (λ v. R.Row.rows.coord v p ≡ R.Scalar.FiniteField.field.zero) (R.Row.vectors rows.now) }
+fn zero_at<R: Row>(rows: &[R], p: usize) -> bool
+    ensures { (result ≡ true) ↔ Each (λ v. R.rows.coord v p ≡ R.Scalar.field.zero) rows.now }
 {
-    for row in rows {
-        if !is_zero(row.coordinate(p)) {
-            return false;
-        }
-    }
-    true
+    rows.iter().all(|row| is_zero(row.coordinate(p)))
 }
 
-pub(crate) fn is_reduced<R: Row + Copy>(rows: &[R]) -> bool
-    requires { Each R.Row.valid rows.now }
-    ensures { (result ≡ true) ↔ Reduced R.Scalar.FiniteField.field R.Row.rows (R.Row.vectors rows.now) }
+pub(crate) fn is_reduced<R: Row>(rows: &[R]) -> bool
+    ensures { (result ≡ true) ↔ Reduced R.Scalar.field R.rows rows.now }
 {
     let mut from = 0;
-    for k in 0..rows.len() {
-        let row = rows[k];
-        let p = leading(row, 0);
-        if p < from || !is_one(row.coordinate(p)) || !zero_at(&rows[0..k], p) {
+    for (k, row) in rows.iter().enumerate() {
+        let p = leading(*row, 0);
+        if p < from || !is_one(row.coordinate(p)) || !zero_at(&rows[..k], p) {
             return false;
         }
         from = p + 1;
@@ -41,17 +33,11 @@ pub(crate) fn is_reduced<R: Row + Copy>(rows: &[R]) -> bool
 }
 
 // Whether every row is zero.
-fn all_zero<R: Row + Copy>(rows: &[R]) -> bool
-    requires { Each R.Row.valid rows.now }
-    ensures { (result ≡ true) ↔ Each (λ v. v ≡ R.Row.rows.none) (R.Row.vectors rows.now) }
+fn all_zero<R: Row>(rows: &[R]) -> bool
+    ensures { (result ≡ true) ↔ Each (λ v. v ≡ R.rows.none) rows.now }
 {
     let width = R::width();
-    for row in rows {
-        if leading(*row, 0) < width {
-            return false;
-        }
-    }
-    true
+    rows.iter().all(|row| leading(*row, 0) == width)
 }
 
 // q^ℓ.
@@ -59,24 +45,14 @@ pub(crate) fn header_limit<F: SymbolField>(l: usize) -> u32
     requires { l ≤ F.SymbolField.m }
     ensures { result ≡ F.SymbolField.q ^ l }
 {
-    let q = F::q();
-    let mut limit = 1;
-    for _ in 0..l {
-        limit *= q;
-    }
-    limit
+    F::q().pow(l as u32)
 }
 
 // Whether the x code of every packet is below the limit.
 fn headers_below<F: SymbolField>(packets: &[Packet<F>], limit: u32) -> bool
     ensures { (result ≡ true) ↔ Each (λ p. F.FiniteField.code p.x < limit) packets.now }
 {
-    for packet in packets {
-        if limit <= packet.x.code() {
-            return false;
-        }
-    }
-    true
+    packets.iter().all(|packet| packet.x.code() < limit)
 }
 
 // Whether the packets are a window of this dimension with x codes below q^ℓ.
@@ -84,11 +60,8 @@ pub(crate) fn is_window<F: SymbolField>(packets: &[Packet<F>], dim: usize, l: us
     requires { l ≤ F.SymbolField.m }
     ensures { (result ≡ true) ↔ PacketWindow (alphabet F.Scalar.FiniteField F.FiniteField F.SymbolField) l dim packets.now }
 {
-    if packets.len() < dim
-        || !is_reduced(&packets[0..dim])
-        || !all_zero(&packets[dim..packets.len()])
-    {
+    let Some((first, rest)) = packets.split_at_checked(dim) else {
         return false;
-    }
-    headers_below(packets, header_limit::<F>(l))
+    };
+    is_reduced(first) && all_zero(rest) && headers_below(packets, header_limit::<F>(l))
 }

@@ -40,7 +40,7 @@ fn fill<F: SymbolField, D: Feed<Item = Packet<F>>>(
         if limit <= packet.x.code() {
             drained.passed += 1;
         } else {
-            (risen, _) = add_row(window, risen, packet);
+            risen = add_row(window, risen, packet).dimension;
             drained.kept += 1;
         }
     }

@@ -59,7 +59,7 @@ impl Session {
         let width = self.l + F::m();
         let from = number as usize * width;
         let window = &mut rows[from..from + width];
-        let (dimension, rose) = add_row(window, dimension, packet);
+        let Taken { dimension, rose } = add_row(window, dimension, packet);
         self.numbers[number as usize] = Number::Open {
             taken: taken + 1,
             dimension,

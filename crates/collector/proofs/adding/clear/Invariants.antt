@@ -1,11 +1,9 @@
--- The first k rows are cleared at p, and the others are as they were.
+-- The first i rows are cleared at p, and the others are as they were.
 use Rattle.std.proofs.Common.{◌≡◌, ◌++◌, map, take, drop}
 use Rattle.linear.specs.Rows.{cleared}
-use Rattle.linear.specs.Span.{Each}
 use Rattle.collector.proofs.adding.clear.Given as goal
 
-abbrev pub invariant-loop-k : goal.invariant-loop-k
-invariant-loop-k g l =
-    let L = g.R.Row.vectors l.initial.rows in
-    Each g.R.Row.valid l.rows
-    × (g.R.Row.vectors l.rows ≡ map (cleared g.R.Scalar.FiniteField.field g.R.Row.rows (g.R.Row.vector l.unit) l.p) (take l.k L) ++ drop l.k L)
+abbrev pub invariant-loop-row : goal.invariant-loop-row
+invariant-loop-row g l =
+    let L = l.initial.rows in
+    l.rows ≡ map (cleared g.R.Scalar.FiniteField.field g.R.Row.rows l.unit l.p) (take l.row-index L) ++ drop l.row-index L

@@ -7,5 +7,4 @@ abbrev pub invariant-loop-pivot : goal.invariant-loop-pivot
 invariant-loop-pivot g l =
     let F = g.R.Scalar.FiniteField.field in
     let R = g.R.Row.rows in
-    let L = g.R.Row.vectors l.rows in
-    g.R.Row.valid l.rest × From F R L l.pivot-index l.from × Remaining F R L (g.R.Row.vector l.initial.rest) (g.R.Row.vector l.rest) l.pivot-index
+    From F R l.rows l.pivot-index l.from × Remaining F R l.rows l.initial.rest l.rest l.pivot-index

@@ -8,5 +8,4 @@ abbrev pub invariant-loop-k : goal.invariant-loop-k
 invariant-loop-k g l =
     let F = g.R.Scalar.FiniteField.field in
     let R = g.R.Row.rows in
-    let L = g.R.Row.vectors l.rows in
-    From F R L l.k l.from × ((j : ℕ) → j < l.k → (q : ℕ) → Leads F R (get_or L j R.none) q → q < l.p)
+    From F R l.rows l.k l.from × ((j : ℕ) → j < l.k → (q : ℕ) → Leads F R (get_or l.rows j R.none) q → q < l.p)

@@ -1,6 +1,5 @@
 -- After i packets the rows are a window on the residuals of those.
-use Rattle.std.proofs.Common.{◌≡◌, ◌<◌, map, length}
-use Rattle.linear.specs.Span.{Each}
+use Rattle.std.proofs.Common.{◌≡◌, length}
 use Rattle.field.proofs.Members.{alphabet}
 use Rattle.collector.specs.Interpolation.{polynomial}
 use Rattle.collector.proofs.Measures.{Measuring}
@@ -9,5 +8,4 @@ use Rattle.collector.proofs.measuring.measure.Given as goal
 abbrev pub invariant-loop-packet : goal.invariant-loop-packet
 invariant-loop-packet g l =
     let A = alphabet g.F.Scalar.FiniteField g.F.FiniteField g.F.SymbolField in
-    Measuring A (polynomial A l.message) l.packets l.packet-index l.dimension (map (λ r. g.F.FiniteField.element r.code) l.rows)
-    × Each (λ r. r.code < g.F.FiniteField.size) l.rows × (length l.rows ≡ 16)
+    Measuring A (polynomial A l.message) l.packets l.packet-index l.dimension l.rows × (length l.rows ≡ 16)

@@ -4,7 +4,7 @@ use Rattle.field.proofs.Members.{alphabet}
 use Rattle.packet.specs.Packets.{packet_rows}
 use Rattle.packet.proofs.Packets.{packet_laws}
 use Rattle.collector.specs.Windows.{Window}
-use Rattle.collector.proofs.Room.{width_room, window_zero, packets_valid}
+use Rattle.collector.proofs.Room.{width_room, window_zero}
 use Rattle.collector.proofs.tests.reduce.Given as given
 use Rattle.collector.proofs.tests.reduce.Goals as goal
 
@@ -15,12 +15,10 @@ laws : (g : given.Over) → Lawful (A g)
 unfolding A
 laws g = record { scalar_codes = g.met.F.Scalar.FiniteField.codes; codes = g.met.F.FiniteField.codes; extension = g.met.F.SymbolField.extension }
 
-pub add_row-now-requires : goal.add_row-now-requires
+pub add_row-dimension-requires : goal.add_row-dimension-requires
 unfolding A
-add_row-now-requires g c = record {
+add_row-dimension-requires g c = record {
   window = c.loop-packet.invariant.0;
-  valid = packets_valid c.loop-packet.rows;
-  fine = tt;
   room = λ out. width_room (packet_laws (laws g)) c.loop-packet.invariant.0 c.loop-packet.invariant.1 out;
 }
 
@@ -32,4 +30,4 @@ loop-packet-init g c = (
 )
 
 pub loop-packet-preserved : goal.loop-packet-preserved
-loop-packet-preserved g c = (c.add_row-now.ensures.added.window, omega (arith, c.loop-packet.invariant.1, c.add_row-now.auto.rows))
+loop-packet-preserved g c = (c.add_row-dimension.ensures.added.window, omega (arith, c.loop-packet.invariant.1, c.add_row-dimension.auto.rows))

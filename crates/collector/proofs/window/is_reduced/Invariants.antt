@@ -3,4 +3,4 @@ use Rattle.collector.proofs.Checks.{Checked}
 use Rattle.collector.proofs.window.is_reduced.Given as goal
 
 abbrev pub invariant-loop-k : goal.invariant-loop-k
-invariant-loop-k g l = Checked g.R.Scalar.FiniteField.field g.R.Row.rows (g.R.Row.vectors l.rows) l.k l.from
+invariant-loop-k g l = Checked g.R.Scalar.FiniteField.field g.R.Row.rows l.rows l.k l.from

@@ -1,53 +1,38 @@
-use Rattle.std.proofs.Common.{◌≡◌, ◌-◌, ◌<◌, length, take, drop, sym, subst, arith}
-use native.Mathlib.Nat.{sub-zero}
-use borrow.Author.Tests.{both_ways, clash}
-use Rattle.std.proofs.lemmas.List.{take_rest}
+use Rattle.std.proofs.Common.{◌<◌, sym, ◌∙◌, subst}
+use borrow.Author.Tests.{both_ways}
 use Rattle.linear.specs.Span.{Each}
-use Rattle.linear.specs.Reduced.{Reduced}
-use Rattle.collector.proofs.Room.{packets_valid}
 use Rattle.field.proofs.Members.{alphabet}
 use Rattle.packet.specs.Packets.{packet_rows}
-use Rattle.collector.proofs.Windows.{zeros_from, zeros_to}
+use Rattle.collector.proofs.Windows.{window_made, window_parts}
 use Rattle.collector.proofs.window.is_window.Goals as goal
-use Rattle.collector.proofs.window.is_window.Goals.{then-packets-dim-via-then-packets-dim, then-packets-dim-via-else-packets-dim+then-not-is_reduced, then-packets-dim-via-else-packets-dim+else-not-is_reduced+then-not-all_zero}
+use Rattle.collector.proofs.window.is_window.Goals.{then-is_reduced, else-is_reduced}
 
-pub is_reduced-requires : goal.is_reduced-requires
-is_reduced-requires g c = packets_valid (take (c.args.dim - 0) c.args.packets.now)
-
-pub all_zero-requires : goal.all_zero-requires
-all_zero-requires g c = packets_valid (take (length c.args.packets.now - c.args.dim) (drop c.args.dim c.args.packets.now))
-
-pub returns-then-packets-dim : goal.returns-then-packets-dim
-returns-then-packets-dim g c =
+pub returns-then-all_zero : goal.returns-then-all_zero
+returns-then-all_zero g c =
     let A = alphabet g.F.Scalar.FiniteField g.F.FiniteField g.F.SymbolField in
-    let R = packet_rows A in
     let L = c.args.packets.now in
-    let d = c.args.dim in (
-      λ e. absurd (clash e),
-      λ (w, h).
-          let no_way : ⊥ = elim c.then-packets-dim.branch [
-            | then-packets-dim-via-then-packets-dim x ↦ omega (arith, w.within, x.if-packets-dim.true)
-            | then-packets-dim-via-else-packets-dim+then-not-is_reduced x ↦
-                both_ways _ x.if-not-is_reduced.true (x.is_reduced.ensures.1 (subst (λ n. Reduced A.scalars R (take n L)) (sym (sub-zero d)) w.reduced))
-            | then-packets-dim-via-else-packets-dim+else-not-is_reduced+then-not-all_zero x ↦
-                both_ways _ x.if-not-all_zero.true (x.all_zero.ensures.1 (subst (Each (λ v. v ≡ R.none)) (sym (take_rest L d)) (zeros_to R.none d L w.zeros)))
-          ] in absurd no_way,
-    )
+    let limit = c.header_limit.ensures in
+    elim c.if-is_reduced.branch [
+      | then-is_reduced w ↦ (
+        λ t. (
+          window_made A.scalars (packet_rows A) c.args.dim L _ _ c.in-Some.ensures.cases (c.is_reduced.ensures.0 w.if-is_reduced.true)
+              (w.all_zero.ensures.0 (sym w.value-is ∙ c.if-all_zero.true)),
+          subst (λ n. Each (λ p. A.code p.x < n) L) limit (c.headers_below.ensures.0 t),
+        ),
+        λ (x, h). c.headers_below.ensures.1 (subst (λ n. Each (λ p. A.code p.x < n) L) (sym limit) h),
+      )
+      | else-is_reduced w ↦ absurd (both_ways _ w.if-is_reduced.false (sym w.value-is ∙ c.if-all_zero.true))
+    ]
 
-pub returns : goal.returns
-returns g c =
+pub returns-else-all_zero : goal.returns-else-all_zero
+returns-else-all_zero g c =
     let A = alphabet g.F.Scalar.FiniteField g.F.FiniteField g.F.SymbolField in
-    let R = packet_rows A in
-    let L = c.args.packets.now in
-    let d = c.args.dim in
-    let limit = c.header_limit.ensures in (
-      λ t. (
-        record {
-          within = c.if-packets-dim.false;
-          reduced = subst (λ n. Reduced A.scalars R (take n L)) (sub-zero d) (c.is_reduced.ensures.0 c.if-not-is_reduced.false);
-          zeros = zeros_from R.none d L (subst (Each (λ v. v ≡ R.none)) (take_rest L d) (c.all_zero.ensures.0 c.if-not-all_zero.false));
-        },
-        subst (λ n. Each (λ p. A.code p.x < n) L) limit (c.headers_below.ensures.0 t),
-      ),
-      λ (w, h). c.headers_below.ensures.1 (subst (λ n. Each (λ p. A.code p.x < n) L) (sym limit) h),
+    let L = c.args.packets.now in (
+      λ t. absurd (both_ways _ c.if-all_zero.false t),
+      λ (x, h).
+          let parts = window_parts A.scalars (packet_rows A) c.args.dim L _ _ c.in-Some.ensures.cases x in
+          elim c.if-is_reduced.branch [
+            | then-is_reduced w ↦ w.value-is ∙ w.all_zero.ensures.1 parts.1
+            | else-is_reduced w ↦ absurd (both_ways _ w.if-is_reduced.false (c.is_reduced.ensures.1 parts.0))
+          ],
     )

@@ -11,7 +11,6 @@ use Rattle.collector.specs.declared.session.Number.TheVariants.{Shut}
 use Rattle.collector.specs.Windows.{Window, Added}
 use Rattle.collector.specs.Session.{record_of, rows_of, Overfull}
 use Rattle.collector.proofs.Sessions.{ready_window, ready_none, not_shut, not_overfull}
-use Rattle.collector.proofs.Room.{packets_valid}
 use Rattle.collector.proofs.Taking.{part_is, put_is, ready_packets, ready_room, taken_one, packet_header}
 use Rattle.collector.proofs.session.Session.take.Given as given
 use Rattle.collector.proofs.session.Session.take.Goals as goal
@@ -48,8 +47,6 @@ add_row-dimension-requires g c =
     let packets = ready_packets (laws g) s c.args.rows.now b ready c.in_ok-taken.taken c.in_ok-taken.dimension was in
     record {
       window = subst (λ rows. Window (A g).scalars (packet_rows (A g)) c.in_ok-taken.dimension rows) (sym part) packets.0;
-      valid = packets_valid _;
-      fine = tt;
       room = subst (λ rows. ¬ Span (packet_rows (A g)) rows c.in_ok-taken.packet → c.in_ok-taken.dimension < length rows) (sym part)
           (ready_room (laws g) s c.args.rows.now b ready c.in_ok-taken.taken c.in_ok-taken.dimension was c.in_ok-taken.packet
           (subst (HeaderBelow (A g) s.l) (sym is) (packet_header (laws g) s.l c.args.x c.args.y ready.allowed.2 low)));
@@ -65,8 +62,8 @@ returns g c =
     let d = c.in_ok-taken.dimension in
     let M = c.add_row-dimension.new.rows in
     let (ready, was, low, high, room, is) = c.in_ok-taken.ensures in
-    let e = c.add_row-dimension.result.0 in
-    let rose = c.add_row-dimension.result.1 in
+    let e = c.add_row-dimension.result.dimension in
+    let rose = c.add_row-dimension.result.rose in
     let part = part_is (A g) s.l c.m.result b rows c.m.ensures in
     let grown = subst (λ L. Added (A g).scalars (packet_rows (A g)) d c.in_ok-taken.packet L M e rose) part c.add_row-dimension.ensures.added in
     let added = subst (λ p. Added (A g).scalars (packet_rows (A g)) d p (rows_of (A g) s rows b) M e rose) is grown in (

@@ -3,7 +3,7 @@ use Rattle.field.specs.Alphabet.{Alphabet, Lawful}
 use Rattle.field.proofs.Members.{alphabet}
 use Rattle.feed.proofs.Nexts.{gives_some, gives_not_some}
 use Rattle.collector.specs.Answers.{DrainAnswer}
-use Rattle.collector.proofs.Room.{packet_room, packets_valid}
+use Rattle.collector.proofs.Room.{packet_room}
 use Rattle.collector.proofs.Draining.{filling_start, filling_pass, filling_keep, filling_all, filling_end, filling_few}
 use Rattle.collector.proofs.session.draining.fill.Given as given
 use Rattle.collector.proofs.session.draining.fill.Goals as goal
@@ -41,15 +41,13 @@ loop-packet-preserved-then-limit-code g c =
       n.same ∙ c.loop-packet.invariant.1,
     )
 
-pub add_row-requires : goal.add_row-requires
+pub add_row-risen-requires : goal.add_row-risen-requires
 unfolding A
-add_row-requires g c =
+add_row-risen-requires g c =
     let f = c.loop-packet.invariant.0 in
     let low : (A g).code c.in-Some.packet.x < (A g).q ^ c.args.l = omega (arith, c.header_limit-limit.ensures, c.code.ensures) in
     record {
       window = f.window.0;
-      valid = packets_valid _;
-      fine = tt;
       room = packet_room (laws g) c.args.l c.requires.wide.0 f.window (omega (arith, c.requires.wide, c.loop-packet.auto.window)) low;
     }
 
@@ -60,7 +58,7 @@ loop-packet-preserved g c =
     let list = g.D.Feed.list in
     let low : (A g).code c.in-Some.packet.x < (A g).q ^ c.args.l = omega (arith, c.header_limit-limit.ensures, c.code.ensures) in (
       filling_keep (laws g) c.args.l c.in-Some.packet c.requires.wide.0 (gives_some (list c.loop-packet.feed) (list c.next.new.self) c.in-Some.packet n.gives) low
-          c.loop-packet.invariant.0 c.add_row.ensures.added,
+          c.loop-packet.invariant.0 c.add_row-risen.ensures.added,
       n.same ∙ c.loop-packet.invariant.1,
     )
 
