@@ -105,13 +105,13 @@ module _ {K S : Type 0} (A : Alphabet K S) (laws : Lawful A) (k ℓ : ℕ) where
 
       go : View A laws ℓ (record_of s.session b) (number_rows A s b) (m b) → OpenRows (number_rows A s b) ps
       go (view_shut f c z) = absurd (cell_apart (sym e ∙ c))
-      go (view_open n d qs f c l o t) =
+      go (view_open tally qs f c l o t) =
           let same : qs ≡ ps = holds_same (sym c ∙ e) in
           record {
-            dimension = d;
+            dimension = tally.dimension;
             sound = o;
             spans = λ v. let w = window_span (packet_laws laws) o.0 v in
-                let here = subst (λ (l : List (Packet S)). Spans (packet_rows A) (take d (number_rows A s b)) (Span (packet_rows A) l)) same t v in
+                let here = subst (λ (l : List (Packet S)). Spans (packet_rows A) (take tally.dimension (number_rows A s b)) (Span (packet_rows A) l)) same t v in
                 (λ x. here.0 (w.1 x), λ x. w.0 (here.1 x));
             long = long;
           }

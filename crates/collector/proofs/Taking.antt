@@ -1,6 +1,5 @@
 -- What a packet added to a number's window does, in the words of spaces.
-use Rattle.std.proofs.Common.{◌≡◌, ℕ, ◌+◌, ◌-◌, ◌*◌, ◌^◌, ◌<◌, ◌≤◌, Bool, true, false, cond, ltb, ◌↔◌, List, [], ◌∷◌, ◌++◌, length, take, drop, set, sym, refl, ap, ◌∙◌, subst, arith, le-ltb, lt-ltb}
-use borrow.Rule.Slice.PartMut.{put_mid}
+use Rattle.std.proofs.Common.{◌≡◌, ℕ, ◌+◌, ◌^◌, ◌<◌, ◌≤◌, Bool, true, false, cond, ltb, ◌↔◌, List, [], ◌∷◌, ◌++◌, length, take, set, Some, sym, refl, ◌∙◌, subst, arith, le-ltb, lt-ltb}
 use Rattle.linear.specs.Span.{Span, Spans, Sum}
 use Rattle.linear.proofs.Rows.{plus_comm}
 use Rattle.linear.proofs.Dims.{dim_same}
@@ -12,11 +11,11 @@ use Rattle.packet.specs.Packets.{packet_rows}
 use Rattle.packet.specs.Headers.{HeaderBelow}
 use Rattle.packet.proofs.Packets.{packet_laws}
 use Rattle.answer.specs.declared.Drained.{Drained}
+use Rattle.answer.specs.declared.Tally.{Tally}
 use Rattle.collector.specs.Windows.{Window, Added, PacketWindow}
 use Rattle.collector.specs.declared.session.Session.{Session}
-use Rattle.collector.specs.declared.session.Number.TheVariants.{Open}
 use Rattle.collector.specs.Answers.{TakeAnswer, DrainAnswer, kept, packet_of}
-use Rattle.collector.specs.Regions.{width, window, put_window}
+use Rattle.collector.specs.Regions.{width, put_window}
 use Rattle.collector.specs.Session.{record_of, held, rows_of, taken_space, Ready, Filled, Taking, Draining}
 use Rattle.collector.proofs.Spaces.{sum_same, take_answer_same}
 use Rattle.collector.proofs.Regions.{window_within, window_length}
@@ -55,37 +54,24 @@ module _ {K S : Type 0} {A : Alphabet K S} (laws : Lawful A) where
       rose = rose_test d e rose a.count;
     }
 
--- a window as the slice `rows[from..from + width]` has it
-pub part_is : {K S : Type 0} (A : Alphabet K S) (ℓ m b : ℕ) (rows : List (Packet S)) → m ≡ A.m
-    → take (b * (ℓ + m) + (ℓ + m) - b * (ℓ + m)) (drop (b * (ℓ + m)) rows) ≡ window (width A ℓ) b rows
-part_is A ℓ m b rows e =
-    let long : b * (ℓ + m) + (ℓ + m) - b * (ℓ + m) ≡ ℓ + m = omega arith in
-    ap (λ n. take n (drop (b * (ℓ + m)) rows)) long ∙ ap (λ x. window (ℓ + x) b rows) e
-
-pub put_is : {K S : Type 0} (A : Alphabet K S) (ℓ m b : ℕ) (rows new : List (Packet S)) → m ≡ A.m
-    → put_mid (b * (ℓ + m)) (b * (ℓ + m) + (ℓ + m) - b * (ℓ + m)) rows new ≡ put_window (width A ℓ) b new rows
-put_is A ℓ m b rows new e =
-    let long : b * (ℓ + m) + (ℓ + m) - b * (ℓ + m) ≡ ℓ + m = omega arith in
-    ap (λ n. put_mid (b * (ℓ + m)) n rows new) long ∙ ap (λ x. put_window (ℓ + x) b new rows) e
-
 module _ {K S : Type 0} {A : Alphabet K S} (laws : Lawful A) (s : Session) (rows : List (Packet S)) (b : ℕ) (ready : Ready A s rows b)
-    (n d : ℕ) (was : record_of s b ≡ Open n d) where
+    (tally : Tally) (was : record_of s b ≡ Some tally) where
   -- the number's window, of the dimension that its record has
-  pub ready_packets : PacketWindow A s.l d (rows_of A s rows b)
+  pub ready_packets : PacketWindow A s.l tally.dimension (rows_of A s rows b)
   ready_packets = subst (λ number. PacketWindow A s.l (held number) (rows_of A s rows b)) was ready.sound
 
-  ready_space : (p : Packet S) → Span (packet_rows A) (take d (rows_of A s rows b)) p ↔ taken_space A s rows b p
-  ready_space = subst (λ number. (p : Packet S) → Span (packet_rows A) (take d (rows_of A s rows b)) p ↔ Span (packet_rows A) (take (held number) (rows_of A s rows b)) p) (sym was) (λ p. (λ x. x, λ x. x))
+  ready_space : (p : Packet S) → Span (packet_rows A) (take tally.dimension (rows_of A s rows b)) p ↔ taken_space A s rows b p
+  ready_space = subst (λ number. (p : Packet S) → Span (packet_rows A) (take tally.dimension (rows_of A s rows b)) p ↔ Span (packet_rows A) (take (held number) (rows_of A s rows b)) p) (sym was) (λ p. (λ x. x, λ x. x))
 
   pub ready_long : length (rows_of A s rows b) ≡ width A s.l
   ready_long = window_length (width A s.l) b rows (omega (arith, window_within (width A s.l) b ready.below, ready.room))
 
-  pub ready_room : (p : Packet S) → HeaderBelow A s.l p → ¬ Span (packet_rows A) (rows_of A s rows b) p → d < length (rows_of A s rows b)
+  pub ready_room : (p : Packet S) → HeaderBelow A s.l p → ¬ Span (packet_rows A) (rows_of A s rows b) p → tally.dimension < length (rows_of A s rows b)
   ready_room p h out = packet_room laws s.l ready.allowed.2 ready_packets (omega (arith, ready_long)) h out
 
   -- the window changed to one that spans the sum with further packets
   pub filled_more : (ps : List (Packet S)) (e : ℕ) (M after : List (Packet S)) → length M ≡ length (rows_of A s rows b) → PacketWindow A s.l e M
-      → Spans (packet_rows A) (take e M) (Sum (packet_rows A) (Span (packet_rows A) (take d (rows_of A s rows b))) (Span (packet_rows A) ps))
+      → Spans (packet_rows A) (take e M) (Sum (packet_rows A) (Span (packet_rows A) (take tally.dimension (rows_of A s rows b))) (Span (packet_rows A) ps))
       → after ≡ put_window (width A s.l) b M rows → Filled A s rows b (Sum (packet_rows A) (taken_space A s rows b) (Span (packet_rows A) ps)) e after
   filled_more ps e M after long w spans put = record {
     new = M;
@@ -96,12 +82,11 @@ module _ {K S : Type 0} {A : Alphabet K S} (laws : Lawful A) (s : Session) (rows
   }
 
   pub taken_one : (x y : ℕ) (e : ℕ) (rose : Bool) (M after : List (Packet S)) → HeaderBelow A s.l (packet_of A x y)
-      → Added A.scalars (packet_rows A) d (packet_of A x y) (rows_of A s rows b) M e rose → length M ≡ length (rows_of A s rows b)
+      → Added A.scalars (packet_rows A) tally.dimension (packet_of A x y) (rows_of A s rows b) M e rose → length M ≡ length (rows_of A s rows b)
       → after ≡ put_window (width A s.l) b M rows
-      → Taking A s rows b x y (record { dimension = e; rose = rose }) (record { k = s.k; l = s.l; numbers = set s.numbers b (Open (n + 1) e) }) after
+      → Taking A s rows b x y (record { dimension = e; rose = rose }) (record { k = s.k; l = s.l; numbers = set s.numbers b (Some (record { taken = tally.taken + 1; dimension = e })) }) after
   taken_one x y e rose M after h a long put = record {
-    before = n;
-    dimension = d;
+    before = tally;
     was = was;
     gives = take_answer_same A ready_space (added_answer laws ready_packets.0 a);
     only = record { same_k = refl; same_l = refl; changed = refl };
@@ -109,12 +94,11 @@ module _ {K S : Type 0} {A : Alphabet K S} (laws : Lawful A) (s : Session) (rows
   }
 
   pub drained_all : (feed : List (Packet S)) (e : ℕ) (answer : Drained) (rest M after : List (Packet S)) → PacketWindow A s.l e M
-      → Spans (packet_rows A) (take e M) (Sum (packet_rows A) (Span (packet_rows A) (take d (rows_of A s rows b))) (Span (packet_rows A) (kept A s.l feed)))
+      → Spans (packet_rows A) (take e M) (Sum (packet_rows A) (Span (packet_rows A) (take tally.dimension (rows_of A s rows b))) (Span (packet_rows A) (kept A s.l feed)))
       → DrainAnswer A s.l feed answer → rest ≡ [] → length M ≡ length (rows_of A s rows b) → after ≡ put_window (width A s.l) b M rows
-      → Draining A s rows b feed answer rest (record { k = s.k; l = s.l; numbers = set s.numbers b (Open (n + answer.kept) e) }) after
+      → Draining A s rows b feed answer rest (record { k = s.k; l = s.l; numbers = set s.numbers b (Some (record { taken = tally.taken + answer.kept; dimension = e })) }) after
   drained_all feed e answer rest M after w spans gives emptied long put = record {
-    before = n;
-    dimension = d;
+    before = tally;
     was = was;
     gives = gives;
     emptied = emptied;
