@@ -80,6 +80,11 @@ module _ {K S : Type 0} (A : Alphabet K S) where
       × (after ≡ zero_rows A (8 * width A ℓ) ++ drop (8 * width A ℓ) rows)
   Started k ℓ rows (Err e) after = First (start_refusals k ℓ rows) e × (after ≡ rows)
 
+  -- what a call tests before it looks at any number
+  abbrev pub Sized : (k ℓ : ℕ) → List (Packet S) → Result ℕ Refusal → Type 0
+  Sized k ℓ rows (Ok count) = Allowed k ℓ A.m × (count ≡ 8 * width A ℓ) × (count ≤ length rows)
+  Sized k ℓ rows (Err e) = First (start_refusals k ℓ rows) e
+
   -- nothing that every call shares refuses it
   pub record Ready (s : Session) (rows : List (Packet S)) (b : ℕ) : Type 0 where
     pub allowed : Allowed s.k s.l A.m

@@ -7,7 +7,7 @@ ghost use Rattle.collector.specs.Runs.{Faithful};
 ghost use Rattle.collector.specs.Laws.{Orderless, Exact};
 
 use super::Session;
-use super::checks::{allowed, clear};
+use super::checks::{clear, sized};
 use answer::Tally;
 use answer::refusal::Refusal;
 use field::SymbolField;
@@ -26,14 +26,7 @@ impl Session {
         ensures orderless { (s : SessionOf) → result ≡ Ok s → Orderless (alphabet F.Scalar.FiniteField F.FiniteField F.SymbolField) (record { session = s; rows = rows.new }) }
         ensures exact { (s : SessionOf) → result ≡ Ok s → Exact (alphabet F.Scalar.FiniteField F.FiniteField F.SymbolField) s.k s.l }
     {
-        let m = F::m();
-        if !allowed(k, l, m) {
-            return Err(Refusal::Parameters);
-        }
-        let count = 8 * (l + m);
-        if rows.len() < count {
-            return Err(Refusal::Rows);
-        }
+        let count = sized(k, l, rows)?;
         clear(&mut rows[0..count]);
         Ok(Session {
             k,

@@ -1,8 +1,8 @@
 // What calls of a session share: the refusals, each tested in its order, and the zeroing of rows.
-ghost use Rattle.std.specs.Prelude.{◌≡◌, ◌+◌, ◌*◌, ◌<◌, ◌≤◌, true, ◌↔◌, length};
+ghost use Rattle.std.specs.Prelude.{◌≡◌, ◌+◌, ◌<◌, ◌≤◌, length};
 ghost use Rattle.field.specs.Alphabet.{alphabet};
-ghost use Rattle.collector.specs.Regions.{width, zero_rows};
-ghost use Rattle.collector.specs.Session.{Allowed, held, Looked, Reached};
+ghost use Rattle.collector.specs.Regions.{zero_rows, Place};
+ghost use Rattle.collector.specs.Session.{held, Sized, Looked, Reached};
 
 use super::Session;
 use crate::window::is_window;
@@ -15,11 +15,23 @@ use std::ops::Range;
 // No number's list grows longer: `list_limit` in the specs.
 pub(crate) const LIST_LIMIT: usize = 10_000;
 
-// Whether 1 ≤ k ≤ ℓ ≤ m.
-pub(crate) fn allowed(k: usize, l: usize, m: usize) -> bool
-    ensures { (result ≡ true) ↔ Allowed k l m }
+// How many rows the eight numbers have, past what refuses k, ℓ and the rows.
+pub(crate) fn sized<F: SymbolField>(
+    k: usize,
+    l: usize,
+    rows: &[Packet<F>],
+) -> Result<usize, Refusal>
+    ensures { Sized (alphabet F.Scalar.FiniteField F.FiniteField F.SymbolField) k l rows.now result }
 {
-    1 <= k && k <= l && l <= m
+    let m = F::m();
+    if k < 1 || l < k || m < l {
+        return Err(Refusal::Parameters);
+    }
+    let count = 8 * (l + m);
+    if rows.len() < count {
+        return Err(Refusal::Rows);
+    }
+    Ok(count)
 }
 
 // Zeroes the rows.
@@ -43,9 +55,7 @@ impl Session {
     // Where a number's rows stand.
     pub(crate) fn place<F: SymbolField>(&self, number: u8) -> Range<usize>
         requires { (number < 8) × (self.now.l ≤ F.SymbolField.m) }
-        ensures start { result.start ≡ number * (self.now.l + F.SymbolField.m) }
-        ensures end { result.end ≡ number * (self.now.l + F.SymbolField.m) + (self.now.l + F.SymbolField.m) }
-        ensures within { result.end ≤ 8 * (self.now.l + F.SymbolField.m) }
+        ensures { Place (self.now.l + F.SymbolField.m) number result }
     {
         let width = self.l + F::m();
         let from = number as usize * width;
@@ -60,13 +70,7 @@ impl Session {
     ) -> Result<Option<Tally>, Refusal>
         ensures { Looked (alphabet F.Scalar.FiniteField F.FiniteField F.SymbolField) self.now rows.now number result }
     {
-        let m = F::m();
-        if !allowed(self.k, self.l, m) {
-            return Err(Refusal::Parameters);
-        }
-        if rows.len() < 8 * (self.l + m) {
-            return Err(Refusal::Rows);
-        }
+        let _ = sized(self.k, self.l, rows)?;
         if number > 7 {
             return Err(Refusal::BlockNumber);
         }
