@@ -2,7 +2,7 @@
 ghost use Rattle.std.specs.Prelude.{◌≡◌, ◌+◌, ◌<◌, ◌≤◌, length};
 ghost use Rattle.field.specs.Alphabet.{alphabet};
 ghost use Rattle.collector.specs.Regions.{zero_rows, Place};
-ghost use Rattle.collector.specs.Session.{held, Sized, Looked, Reached};
+ghost use Rattle.collector.specs.Session.{Sized, Looked, Reached};
 
 use super::Session;
 use crate::window::is_window;
@@ -44,13 +44,6 @@ pub(crate) fn clear<F: SymbolField>(rows: &mut [Packet<F>])
     }
 }
 
-// The dimension held: 0 when shut.
-fn held(tally: Option<Tally>) -> usize
-    ensures { result ≡ held tally }
-{
-    tally.map_or(0, |tally| tally.dimension)
-}
-
 impl Session {
     // Where a number's rows stand.
     pub(crate) fn place<F: SymbolField>(&self, number: u8) -> Range<usize>
@@ -71,12 +64,13 @@ impl Session {
         ensures { Looked (alphabet F.Scalar.FiniteField F.FiniteField F.SymbolField) self.now rows.now number result }
     {
         let _ = sized(self.k, self.l, rows)?;
-        if number > 7 {
-            return Err(Refusal::BlockNumber);
-        }
-        let record = self.numbers[number as usize];
+        let record = *self
+            .numbers
+            .get(number as usize)
+            .ok_or(Refusal::BlockNumber)?;
+        let dimension = record.map_or(0, |tally| tally.dimension);
         let place = self.place::<F>(number);
-        if !is_window(&rows[place], held(record), self.l) {
+        if !is_window(&rows[place], dimension, self.l) {
             return Err(Refusal::Rows);
         }
         Ok(record)
