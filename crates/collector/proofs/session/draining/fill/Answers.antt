@@ -15,16 +15,6 @@ laws : (g : given.Over) → Lawful (A g)
 unfolding A
 laws g = record { scalar_codes = g.met.F.Scalar.FiniteField.codes; codes = g.met.F.FiniteField.codes; extension = g.met.F.SymbolField.extension }
 
-pub loop-packet-init : goal.loop-packet-init
-unfolding A
-loop-packet-init g c = (filling_start (laws g) c.args.l c.args.dimension c.requires.window, refl)
-
-pub overflow_add-drained : goal.overflow_add-drained
-unfolding A
-overflow_add-drained g c =
-    let few = filling_few (laws g) c.args.l c.loop-packet.invariant.0 in
-    let short = g.D.Feed.short c.args.feed.now in omega arith
-
 pub overflow_add-drained-else-limit-code : goal.overflow_add-drained-else-limit-code
 unfolding A
 overflow_add-drained-else-limit-code g c =
@@ -41,17 +31,14 @@ loop-packet-preserved-then-limit-code g c =
       n.same ∙ c.loop-packet.invariant.1,
     )
 
-pub add_row-requires : goal.add_row-requires
+pub add_row-requires-clause-valid : goal.add_row-requires-clause-valid
+add_row-requires-clause-valid g c = packets_valid _
+
+pub add_row-requires-clause-room : goal.add_row-requires-clause-room
 unfolding A
-add_row-requires g c =
-    let f = c.loop-packet.invariant.0 in
+add_row-requires-clause-room g c =
     let low : (A g).code c.in-Some.packet.x < (A g).q ^ c.args.l = omega (arith, c.header_limit-limit.ensures, c.code.ensures) in
-    record {
-      window = f.window.0;
-      valid = packets_valid _;
-      fine = tt;
-      room = packet_room (laws g) c.args.l c.requires.wide.0 f.window (omega (arith, c.requires.wide, c.loop-packet.auto.window)) low;
-    }
+    packet_room (laws g) c.args.l c.requires.wide.0 c.loop-packet.invariant.0.window (omega (arith, c.requires.wide, c.loop-packet.auto.window)) low
 
 pub loop-packet-preserved : goal.loop-packet-preserved
 unfolding A
@@ -64,16 +51,9 @@ loop-packet-preserved g c =
       n.same ∙ c.loop-packet.invariant.1,
     )
 
-pub returns : goal.returns
+pub returns-clause-spans : goal.returns-clause-spans
 unfolding A
-returns g c =
+returns-clause-spans g c =
     let list = g.D.Feed.list in
-    let f = c.loop-packet.invariant.0 in
     let none = gives_not_some (list c.loop-packet.feed) (list c.next.new.self) c.next.result c.next.ensures.gives c.in_default.not-Some in
-    record {
-      window = f.window;
-      spans = filling_end (laws g) c.args.l c.requires.window.0 f none.0;
-      gives = subst (λ ps. DrainAnswer (A g) c.args.l ps c.loop-packet.drained) (filling_all (laws g) c.args.l f none.0) f.gives;
-      empty = none.1;
-      same = c.next.ensures.same ∙ c.loop-packet.invariant.1;
-    }
+    filling_end (laws g) c.args.l c.requires.window.0 c.loop-packet.invariant.0 none.0
