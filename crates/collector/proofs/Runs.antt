@@ -191,12 +191,21 @@ module _ {K S : Type 0} (A : Alphabet K S) (laws : Lawful A) where
     stayed : (t : State S) → t.session ≡ s.session → t.rows ≡ s.rows → Represents A s.session.k s.session.l later t m
     stayed t e f = subst (λ (x : State S). Represents A s.session.k s.session.l later x m) (λ i. record { session = sym e i; rows = sym f i }) r
 
+    same_state : (t : State S) → t ≡ s → Represents A s.session.k s.session.l later t m
+    same_state t e = stayed t (ap (λ (x : State S). x.session) e) (ap (λ (x : State S). x.rows) e)
+
     open_alike : (b : ℕ) → b < 8 → Alike (((tally : Tally) × (record_of s.session b ≡ Some tally), AlreadyOpen) ∷ []) (((ps : List (Packet S)) × machine.Holds m b ps, AlreadyOpen) ∷ [])
     open_alike b h =
         alike_more (λ (tally, e). let o = open_cell b tally h e in (o.kept_list, o.is_cell), λ (ps, c). let (tally, e, l) = open_record b ps h c in (tally, e)) alike_none
 
     shut_alike : (b : ℕ) {cs ds : Causes} → b < 8 → Alike cs ds → Alike ((record_of s.session b ≡ None, NotOpen) ∷ cs) ((m b ≡ shut, NotOpen) ∷ ds)
     shut_alike b h a = alike_more (shut_cell b h) a
+
+    shut_first : (b : ℕ) (e : Refusal) → First (shut_refusals A s.session s.rows b) e → First (machine.shut_refusals m b) e
+    shut_first b e f = reach_first b e (λ h. shut_alike b h alike_none) f
+
+    shut_none : (b : ℕ) → NoCause (shut_refusals A s.session s.rows b) → (b < 8) × NoCause (machine.shut_refusals m b)
+    shut_none b none = reach_none b (λ h. shut_alike b h alike_none) none
 
     take_alike : (b x y : ℕ) → b < 8 → Alike
         ((A.q ^ s.session.l ≤ x, Header) ∷ (A.q ^ A.m ≤ y, Payload) ∷ (Overfull s.session b 1, ListFull) ∷ [])
@@ -283,18 +292,18 @@ module _ {K S : Type 0} (A : Alphabet K S) (laws : Lawful A) where
 
     on_tally : (t : State S) (b : ℕ) (answer : Result Tally Refusal) → Step A s (tallied b answer) t → Onward (tallied b answer) t
     on_tally t b (Ok a) ((none, is), same) =
-        let (h, n) = reach_none b (λ h. shut_alike b h alike_none) none in
+        let (h, n) = shut_none b none in
         let o = open_cell b a h is in
-        (m, (n, (o.kept_list, o.is_cell, o.is_long, held_dim b a o), still), stayed t (ap (λ (x : State S). x.session) same) (ap (λ (x : State S). x.rows) same))
+        (m, (n, (o.kept_list, o.is_cell, o.is_long, held_dim b a o), still), same_state t same)
     on_tally t b (Err e) (f, same) =
-        (m, (reach_first b e (λ h. shut_alike b h alike_none) f, still), stayed t (ap (λ (x : State S). x.session) same) (ap (λ (x : State S). x.rows) same))
+        (m, (shut_first b e f, still), same_state t same)
 
     on_close : (t : State S) (b : ℕ) (answer : Result (Unit {0}) Refusal) → Step A s (closed b answer) t → Onward (closed b answer) t
     on_close t b (Ok a) (none, only, rows) =
-        let (h, n) = reach_none b (λ h. shut_alike b h alike_none) none in
+        let (h, n) = shut_none b none in
         let w = width A s.session.l in
         (put m b shut, (n, put_is m b shut), changed t b None (zero_rows A w) shut h only (length-replicate w (packet_zero A)) rows refl)
-    on_close t b (Err e) (f, (same, rows)) = (m, (reach_first b e (λ h. shut_alike b h alike_none) f, still), stayed t same rows)
+    on_close t b (Err e) (f, (same, rows)) = (m, (shut_first b e f, still), stayed t same rows)
 
     -- what solve sees of an open number
     record SolveView (b : ℕ) : Type 0 where
@@ -306,7 +315,7 @@ module _ {K S : Type 0} (A : Alphabet K S) (laws : Lawful A) where
 
     solve_view : (b : ℕ) → NoCause (shut_refusals A s.session s.rows b) → SolveView b
     solve_view b none =
-        let (h, c) = reach_none b (λ h. shut_alike b h alike_none) none in
+        let (h, c) = shut_none b none in
         let (tally, e) = opened_record b none.1.1.1.0 in
         record { below = h; not_refused = c; tally = tally; was = e; cell = open_cell b tally h e }
 
@@ -336,12 +345,12 @@ module _ {K S : Type 0} (A : Alphabet K S) (laws : Lawful A) where
             ),
             still,
           ),
-          stayed t (ap (λ (x : State S). x.session) same) (ap (λ (x : State S). x.rows) same),
+          same_state t same,
         )
     on_solve t b output written (Err e) ((f, left), same) = (
       m,
       (go (first_parts (shut_refusals A s.session s.rows b) (solve_causes A s.session.k s.session.l (taken_space A s.session s.rows b) (held (record_of s.session b)) (length output)) e f), left, still),
-      stayed t (ap (λ (x : State S). x.session) same) (ap (λ (x : State S). x.rows) same),
+      same_state t same,
     )
       where
         U : Packet S → Type 0
@@ -351,7 +360,7 @@ module _ {K S : Type 0} (A : Alphabet K S) (laws : Lawful A) where
             → First (machine.shut_refusals m b) e
             ⊎ ((ps : List (Packet S)) × (d : ℕ) × NoCause (machine.shut_refusals m b) × machine.Holds m b ps × IsDim (packet_rows A) (Span (packet_rows A) ps) d
             × First (solve_causes A s.session.k s.session.l (Span (packet_rows A) ps) d (length output)) e)
-        go (inl f) = inl (reach_first b e (λ h. shut_alike b h alike_none) f)
+        go (inl f) = inl (shut_first b e f)
         go (inr (none, f)) =
             let v = solve_view b none in
             let f-d = subst (λ r. First (solve_causes A s.session.k s.session.l (taken_space A s.session s.rows b) r (length output)) e) (ap held v.was) f in

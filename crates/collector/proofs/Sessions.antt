@@ -1,17 +1,16 @@
 -- What a call that is not refused by what all calls share may rely on.
-use Rattle.std.proofs.Common.{◌≡◌, ℕ, ◌+◌, ◌-◌, ◌*◌, ◌≤◌, List, [], ◌∷◌, ◌++◌, length, take, drop, Some, None, sym, ap, ◌∙◌, inl, inr, arith}
+use Rattle.std.proofs.Common.{◌≡◌, ℕ, ◌+◌, ◌-◌, ◌≤◌, List, [], ◌++◌, length, take, drop, Some, sym, ap, ◌∙◌, inl, inr, arith}
 use borrow.Rule.Slice.PartMut.{post_of}
 use Rattle.std.proofs.lemmas.List.{length-take-le}
 use Rattle.std.proofs.lemmas.Option.{none-some}
 use Rattle.field.specs.Alphabet.{Alphabet}
 use Rattle.packet.specs.declared.Packet.{Packet}
 use Rattle.answer.specs.declared.refusal.Refusal.{Refusal}
-use Rattle.answer.specs.declared.refusal.Refusal.TheVariants.{NotOpen}
 use Rattle.answer.specs.declared.Tally.{Tally}
 use Rattle.collector.specs.declared.session.Session.{Session}
 use Rattle.answer.specs.Refusals.{Causes, First, NoCause}
 use Rattle.collector.specs.Answers.{list_limit}
-use Rattle.collector.specs.Regions.{width, zero_rows}
+use Rattle.collector.specs.Regions.{zero_rows}
 use Rattle.collector.specs.Session.{record_of, Overfull, Unsound, base_refusals, shut_refusals, start_refusals, Ready}
 use Rattle.answer.proofs.Causes.{first_right}
 

@@ -103,7 +103,7 @@ module _ {K S : Type 0} {A : Alphabet K S} (laws : Lawful A) {s : Session} {rows
   pub taken_one : (x y : ℕ) {p : Packet S} (answer : Taken) {M : List (Packet S)} → x < A.q ^ s.l → p ≡ packet_of A x y
       → Added A.scalars (packet_rows A) tally.dimension p part M answer.dimension answer.rose → length M ≡ length part
       → Taking A s rows b x y answer (record { k = s.k; l = s.l; numbers = set s.numbers b (Some (record { taken = tally.taken + 1; dimension = answer.dimension })) })
-        (put_mid range.start (range.end - range.start) rows M)
+      (put_mid range.start (range.end - range.start) rows M)
   taken_one x y answer {M} low is a long =
       let added = subst (λ p. Added A.scalars (packet_rows A) tally.dimension p part M answer.dimension answer.rose) is a in
       record {
@@ -119,7 +119,7 @@ module _ {K S : Type 0} {A : Alphabet K S} (laws : Lawful A) {s : Session} {rows
       → Spans (packet_rows A) (take e M) (Sum (packet_rows A) (Span (packet_rows A) (take tally.dimension part)) (Span (packet_rows A) (kept A s.l feed)))
       → DrainAnswer A s.l feed answer → rest ≡ [] → length M ≡ length part
       → Draining A s rows b feed answer rest (record { k = s.k; l = s.l; numbers = set s.numbers b (Some (record { taken = tally.taken + answer.kept; dimension = e })) })
-        (put_mid range.start (range.end - range.start) rows M)
+      (put_mid range.start (range.end - range.start) rows M)
   drained_all feed {e} answer w spans gives emptied long = record {
     before = tally;
     was = was;

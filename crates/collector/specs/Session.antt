@@ -94,7 +94,7 @@ module _ {K S : Type 0} (A : Alphabet K S) where
 
   -- a look at number b's record, and one that wants it open: what the calls begin with
   abbrev pub Looked : Session → List (Packet S) → ℕ → Result (Option Tally) Refusal → Type 0
-  Looked s rows b (Ok record_b) = Ready s rows b × (record_of s b ≡ record_b)
+  Looked s rows b (Ok tally) = Ready s rows b × (record_of s b ≡ tally)
   Looked s rows b (Err e) = First (base_refusals s rows b) e
 
   abbrev pub Reached : Session → List (Packet S) → ℕ → Result Tally Refusal → Type 0

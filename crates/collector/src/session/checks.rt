@@ -63,7 +63,7 @@ impl Session {
     ) -> Result<Option<Tally>, Refusal>
         ensures { Looked (alphabet F.Scalar.FiniteField F.FiniteField F.SymbolField) self.now rows.now number result }
     {
-        let _ = sized(self.k, self.l, rows)?;
+        sized(self.k, self.l, rows)?;
         let record = *self
             .numbers
             .get(number as usize)

@@ -1,4 +1,4 @@
-use Rattle.std.proofs.Common.{◌≡◌, ◌*◌, ◌≤◌, ◌++◌, length, drop, sym, refl, ap, ◌∙◌, subst, arith}
+use Rattle.std.proofs.Common.{◌*◌, ◌≤◌, ◌++◌, length, drop, sym, refl, ap, ◌∙◌, subst, arith}
 use Rattle.std.proofs.lemmas.Result.{err_from_is_err_and}
 use Rattle.field.specs.Alphabet.{Alphabet, Lawful}
 use Rattle.field.proofs.Members.{alphabet}
@@ -27,11 +27,12 @@ pub returns : goal.returns
 unfolding A
 returns g c =
     let rows = c.args.rows.now in
-    let (allowed, is, room) = c.in_ok-count.ensures in
-    let zeroed = cleared_front (A g) c.in_ok-count.count rows c.clear.new.rows room c.clear.ensures ∙ ap (λ n. zero_rows (A g) n ++ drop n rows) is in
+    let (allowed, is, long) = c.in_ok-count.ensures in
+    let room : 8 * width (A g) c.args.l ≤ length rows = omega (arith, is, long) in
+    let zeroed = cleared_front (A g) c.in_ok-count.count rows c.clear.new.rows long c.clear.ensures ∙ ap (λ n. zero_rows (A g) n ++ drop n rows) is in
     record {
-      started = ((λ n. n allowed, (λ h. omega (arith, h, room, is), tt)), refl, refl, refl, zeroed);
-      faithful = λ s e. fresh_faithful (A g) (laws g) c.args.k c.args.l rows s _ allowed (subst (λ n. n ≤ length rows) is room) (sym (ok_same e)) zeroed;
-      orderless = λ s e. orderless (A g) (laws g) _ (fresh_faithful (A g) (laws g) c.args.k c.args.l rows s _ allowed (subst (λ n. n ≤ length rows) is room) (sym (ok_same e)) zeroed);
+      started = ((λ n. n allowed, (λ h. omega (arith, h, room), tt)), refl, refl, refl, zeroed);
+      faithful = λ s e. fresh_faithful (A g) (laws g) c.args.k c.args.l rows s _ allowed room (sym (ok_same e)) zeroed;
+      orderless = λ s e. orderless (A g) (laws g) _ (fresh_faithful (A g) (laws g) c.args.k c.args.l rows s _ allowed room (sym (ok_same e)) zeroed);
       exact = λ s e. subst (λ (s : Session). Exact (A g) s.k s.l) (ok_same e) (exact (laws g) c.args.k c.args.l allowed);
     }

@@ -1,10 +1,9 @@
-use Rattle.std.proofs.Common.{◌^◌, ◌<◌, ◌≤◌, refl, ◌∙◌, subst, arith}
+use Rattle.std.proofs.Common.{◌^◌, ◌<◌, ◌≤◌, ◌∙◌, arith}
 use Rattle.field.specs.Alphabet.{Alphabet, Lawful}
 use Rattle.field.proofs.Members.{alphabet}
 use Rattle.feed.proofs.Nexts.{gives_some, gives_not_some}
-use Rattle.collector.specs.Answers.{DrainAnswer}
 use Rattle.collector.proofs.Room.{packet_room, packets_valid}
-use Rattle.collector.proofs.Draining.{filling_start, filling_pass, filling_keep, filling_all, filling_end, filling_few}
+use Rattle.collector.proofs.Draining.{filling_pass, filling_keep, filling_end, filling_few}
 use Rattle.collector.proofs.session.draining.fill.Given as given
 use Rattle.collector.proofs.session.draining.fill.Goals as goal
 
