@@ -1,9 +1,10 @@
-use Rattle.std.proofs.Common.{◌^◌, ◌<◌, ◌≤◌, ◌∙◌, arith}
+use Rattle.std.proofs.Common.{◌≡◌, ◌^◌, ◌<◌, ◌≤◌, [], ◌∙◌, subst, arith}
 use Rattle.field.specs.Alphabet.{Alphabet, Lawful}
 use Rattle.field.proofs.Members.{alphabet}
 use Rattle.feed.proofs.Nexts.{gives_some, gives_not_some}
+use Rattle.collector.specs.Answers.{DrainAnswer}
 use Rattle.collector.proofs.Room.{packet_room, packets_valid}
-use Rattle.collector.proofs.Draining.{filling_pass, filling_keep, filling_end, filling_few}
+use Rattle.collector.proofs.Draining.{filling_pass, filling_keep, filling_all, filling_end, filling_few}
 use Rattle.collector.proofs.session.draining.fill.Given as given
 use Rattle.collector.proofs.session.draining.fill.Goals as goal
 
@@ -50,9 +51,16 @@ loop-packet-preserved g c =
       n.same ∙ c.loop-packet.invariant.1,
     )
 
+-- the feed is at its end
+ended : (g : given.Over) (c : goal.In_default g) → (g.D.Feed.list c.loop-packet.feed ≡ []) × (g.D.Feed.list c.next.new.self ≡ [])
+ended g c = gives_not_some (g.D.Feed.list c.loop-packet.feed) (g.D.Feed.list c.next.new.self) c.next.result c.next.ensures.gives c.in_default.not-Some
+
 pub returns-clause-spans : goal.returns-clause-spans
 unfolding A
-returns-clause-spans g c =
-    let list = g.D.Feed.list in
-    let none = gives_not_some (list c.loop-packet.feed) (list c.next.new.self) c.next.result c.next.ensures.gives c.in_default.not-Some in
-    filling_end (laws g) c.args.l c.requires.window.0 c.loop-packet.invariant.0 none.0
+returns-clause-spans g c = filling_end (laws g) c.args.l c.requires.window.0 c.loop-packet.invariant.0 (ended g c).0
+
+pub returns-clause-gives : goal.returns-clause-gives
+unfolding A
+returns-clause-gives g c =
+    let f = c.loop-packet.invariant.0 in
+    subst (λ ps. DrainAnswer (A g) c.args.l ps c.loop-packet.drained) (filling_all (laws g) c.args.l f (ended g c).0) f.gives
