@@ -22,12 +22,9 @@ use Rattle.collector.specs.Runs.{State, Run, Represents, Follows, Faithful}
 use Rattle.collector.specs.Laws.{PlainRun, left, number_rows, Orderless}
 use Rattle.collector.proofs.Windows.{window_span, window_unique}
 use Rattle.collector.proofs.Regions.{window_within, window_length}
-use Rattle.collector.proofs.Runs.{View, view, view_shut, view_open, cell_apart}
+use Rattle.collector.proofs.Runs.{View, view, view_shut, view_open, cell_apart, holds_same}
 
 module _ {S : Type 0} where
-  holds_same : {ps qs : List (Packet S)} → holds ps ≡ holds qs → ps ≡ qs
-  holds_same e = cc
-
   -- equal machines stay equal
   put_alike : (l m n o : Machine S) (b : ℕ) {x y : Cell S} → x ≡ y → ((c : ℕ) → l c ≡ m c) → Put l b x n → Put m b y o → (c : ℕ) → n c ≡ o c
   put_alike l m n o b e same p q c = go (ℕ_discrete c b)

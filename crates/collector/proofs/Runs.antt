@@ -49,7 +49,10 @@ abbrev fresh : Tally
 fresh = record { taken = 0; dimension = 0 }
 
 pub cell_apart : {S : Type 0} {ps : List (Packet S)} → holds ps ≡ shut → ⊥
-cell_apart e = let z : ◌≡◌ {A = ℕ} 0 1 = cc in omega arith
+cell_apart e = cc
+
+pub holds_same : {S : Type 0} {ps qs : List (Packet S)} → holds ps ≡ holds qs → ps ≡ qs
+holds_same e = cc
 
 -- a window of rows that begin with eight windows of zeros
 zero_window : {K S : Type 0} (A : Alphabet K S) (w b : ℕ) (rows : List (Packet S)) → b < 8 → take (8 * w) rows ≡ zero_rows A (8 * w) → window w b rows ≡ zero_rows A w
