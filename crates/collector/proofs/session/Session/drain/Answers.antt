@@ -10,15 +10,13 @@ use Rattle.collector.proofs.Taking.{part_packets, drained_all}
 use Rattle.collector.proofs.session.Session.drain.Given as given
 use Rattle.collector.proofs.session.Session.drain.Goals as goal
 
-A : (g : given.Over) → Alphabet g.row.F-Scalar.Denot g.row.F.Denot
+abbrev A : (g : given.Over) → Alphabet g.row.F-Scalar.Denot g.row.F.Denot
 A g = alphabet g.F.Scalar.FiniteField g.F.FiniteField g.F.SymbolField
 
 laws : (g : given.Over) → Lawful (A g)
-unfolding A
 laws g = record { scalar_codes = g.met.F.Scalar.FiniteField.codes; codes = g.met.F.FiniteField.codes; extension = g.met.F.SymbolField.extension }
 
 pub returns-in_err-tally-clause-drains : goal.returns-in_err-tally-clause-drains
-unfolding A
 returns-in_err-tally-clause-drains g c =
     let p = err_from_is_err_and c.from_residual.result c.from_residual.ensures.1 in
     let s = c.args.self.now in
@@ -28,12 +26,10 @@ returns-in_err-tally-clause-drains g c =
     rw (p.1, p.2) (why, refl, (refl, refl))
 
 pub fill-dimension-requires-clause-window : goal.fill-dimension-requires-clause-window
-unfolding A
 fill-dimension-requires-clause-window g c =
     let (ready, was, room) = c.in_ok-tally.ensures in part_packets (laws g) ready was c.place-place.ensures
 
 pub returns-clause-drains : goal.returns-clause-drains
-unfolding A
 returns-clause-drains g c =
     let s = c.args.self.now in
     let b = c.args.number in

@@ -12,11 +12,10 @@ use Rattle.collector.proofs.Exactness.{exact}
 use Rattle.collector.proofs.session.Session.start.Given as given
 use Rattle.collector.proofs.session.Session.start.Goals as goal
 
-A : (g : given.Over) → Alphabet g.row.F-Scalar.Denot g.row.F.Denot
+abbrev A : (g : given.Over) → Alphabet g.row.F-Scalar.Denot g.row.F.Denot
 A g = alphabet g.F.Scalar.FiniteField g.F.FiniteField g.F.SymbolField
 
 laws : (g : given.Over) → Lawful (A g)
-unfolding A
 laws g = record { scalar_codes = g.met.F.Scalar.FiniteField.codes; codes = g.met.F.FiniteField.codes; extension = g.met.F.SymbolField.extension }
 
 pub returns-in_err-count-clause-started : goal.returns-in_err-count-clause-started
@@ -24,7 +23,6 @@ returns-in_err-count-clause-started g c =
     let p = err_from_is_err_and c.from_residual.result c.from_residual.ensures.1 in rw (p.1, p.2) (c.in_err-count.ensures, refl)
 
 pub returns : goal.returns
-unfolding A
 returns g c =
     let rows = c.args.rows.now in
     let (allowed, is, long) = c.in_ok-count.ensures in

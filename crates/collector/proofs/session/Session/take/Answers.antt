@@ -11,11 +11,10 @@ use Rattle.collector.proofs.Taking.{part_packets, part_room, taken_one}
 use Rattle.collector.proofs.session.Session.take.Given as given
 use Rattle.collector.proofs.session.Session.take.Goals as goal
 
-A : (g : given.Over) → Alphabet g.row.F-Scalar.Denot g.row.F.Denot
+abbrev A : (g : given.Over) → Alphabet g.row.F-Scalar.Denot g.row.F.Denot
 A g = alphabet g.F.Scalar.FiniteField g.F.FiniteField g.F.SymbolField
 
 laws : (g : given.Over) → Lawful (A g)
-unfolding A
 laws g = record { scalar_codes = g.met.F.Scalar.FiniteField.codes; codes = g.met.F.FiniteField.codes; extension = g.met.F.SymbolField.extension }
 
 pub returns-in_err-tally : goal.returns-in_err-tally
@@ -23,7 +22,6 @@ returns-in_err-tally g c =
     let p = err_from_is_err_and c.from_residual.result c.from_residual.ensures.1 in rw (p.1, p.2) (c.in_err-tally.ensures, (refl, refl))
 
 pub add_row-dimension-requires-clause-window : goal.add_row-dimension-requires-clause-window
-unfolding A
 add_row-dimension-requires-clause-window g c =
     let (ready, was, low, high, room, is) = c.in_ok-tally.ensures in (part_packets (laws g) ready was c.place-place.ensures).0
 
@@ -31,12 +29,10 @@ pub add_row-dimension-requires-clause-valid : goal.add_row-dimension-requires-cl
 add_row-dimension-requires-clause-valid g c = packets_valid _
 
 pub add_row-dimension-requires-clause-room : goal.add_row-dimension-requires-clause-room
-unfolding A
 add_row-dimension-requires-clause-room g c =
     let (ready, was, low, high, room, is) = c.in_ok-tally.ensures in part_room (laws g) ready was c.place-place.ensures c.args.x c.args.y low is
 
 pub returns : goal.returns
-unfolding A
 returns g c =
     let s = c.args.self.now in
     let b = c.args.number in

@@ -8,21 +8,18 @@ use Rattle.collector.proofs.Draining.{filling_pass, filling_keep, filling_all, f
 use Rattle.collector.proofs.session.draining.fill.Given as given
 use Rattle.collector.proofs.session.draining.fill.Goals as goal
 
-A : (g : given.Over) → Alphabet g.row.F-Scalar.Denot g.row.F.Denot
+abbrev A : (g : given.Over) → Alphabet g.row.F-Scalar.Denot g.row.F.Denot
 A g = alphabet g.F.Scalar.FiniteField g.F.FiniteField g.F.SymbolField
 
 laws : (g : given.Over) → Lawful (A g)
-unfolding A
 laws g = record { scalar_codes = g.met.F.Scalar.FiniteField.codes; codes = g.met.F.FiniteField.codes; extension = g.met.F.SymbolField.extension }
 
 pub overflow_add-drained-else-limit-code : goal.overflow_add-drained-else-limit-code
-unfolding A
 overflow_add-drained-else-limit-code g c =
     let few = filling_few (laws g) c.args.l c.loop-packet.invariant.0 in
     let short = g.D.Feed.short c.args.feed.now in omega arith
 
 pub loop-packet-preserved-then-limit-code : goal.loop-packet-preserved-then-limit-code
-unfolding A
 loop-packet-preserved-then-limit-code g c =
     let n = c.in-Some.ensures in
     let list = g.D.Feed.list in
@@ -35,13 +32,11 @@ pub add_row-requires-clause-valid : goal.add_row-requires-clause-valid
 add_row-requires-clause-valid g c = packets_valid _
 
 pub add_row-requires-clause-room : goal.add_row-requires-clause-room
-unfolding A
 add_row-requires-clause-room g c =
     let low : (A g).code c.in-Some.packet.x < (A g).q ^ c.args.l = omega (arith, c.header_limit-limit.ensures, c.code.ensures) in
     packet_room (laws g) c.args.l c.requires.wide.0 c.loop-packet.invariant.0.window (omega (arith, c.requires.wide, c.loop-packet.auto.window)) low
 
 pub loop-packet-preserved : goal.loop-packet-preserved
-unfolding A
 loop-packet-preserved g c =
     let n = c.in-Some.ensures in
     let list = g.D.Feed.list in
@@ -56,11 +51,9 @@ ended : (g : given.Over) (c : goal.In_default g) → (g.D.Feed.list c.loop-packe
 ended g c = gives_not_some (g.D.Feed.list c.loop-packet.feed) (g.D.Feed.list c.next.new.self) c.next.result c.next.ensures.gives c.in_default.not-Some
 
 pub returns-clause-spans : goal.returns-clause-spans
-unfolding A
 returns-clause-spans g c = filling_end (laws g) c.args.l c.requires.window.0 c.loop-packet.invariant.0 (ended g c).0
 
 pub returns-clause-gives : goal.returns-clause-gives
-unfolding A
 returns-clause-gives g c =
     let f = c.loop-packet.invariant.0 in
     subst (λ ps. DrainAnswer (A g) c.args.l ps c.loop-packet.drained) (filling_all (laws g) c.args.l f (ended g c).0) f.gives
