@@ -1,5 +1,6 @@
 -- A feed's packets added to a window one by one.
-use Rattle.std.proofs.Common.{◌≡◌, ℕ, ◌+◌, ◌^◌, ◌<◌, ◌≤◌, Bool, true, false, cond, ltb, List, [], ◌∷◌, ◌++◌, length, take, filter, sym, refl, ap, ◌∙◌, subst, append_assoc, append-nil, arith, length-append, le-ltb, lt-ltb}
+use Rattle.std.proofs.Common.{◌≡◌, ℕ, ◌+◌, ◌^◌, ◌<◌, ◌≤◌, Bool, true, false, cond, ltb, List, [], ◌∷◌, ◌++◌, length, take, sym, refl, ap, ◌∙◌, subst, append_assoc, append-nil, arith, length-append, le-ltb, lt-ltb}
+use Rattle.std.proofs.lemmas.List.Elements.{filter-append}
 use Rattle.linear.specs.Span.{Span, Spans, SameSpan, Sum}
 use Rattle.linear.proofs.Sums.{sum_spans}
 use Rattle.field.specs.Alphabet.{Alphabet, Lawful}
@@ -14,22 +15,13 @@ use Rattle.collector.proofs.Room.{packet_added}
 use Rattle.collector.proofs.Spaces.{sum_same}
 use Rattle.collector.proofs.Measures.{span_after}
 
-kept_by_join : {X : Type 0} (test : X → Bool) (xs ys : List X) → filter test (xs ++ ys) ≡ filter test xs ++ filter test ys
-kept_by_join test [] ys = refl
-kept_by_join {X} test (x ∷ xs) ys = go (test x) (kept_by_join test xs ys)
-  where
-    go : (b : Bool) → filter test (xs ++ ys) ≡ filter test xs ++ filter test ys
-        → cond b (x ∷ filter test (xs ++ ys)) (filter test (xs ++ ys)) ≡ cond b (x ∷ filter test xs) (filter test xs) ++ filter test ys
-    go true rest = ap (λ (zs : List X). x ∷ zs) rest
-    go false rest = rest
-
 -- the first of what is to come joins what was seen
 seen_more : {X : Type 0} {all rest after : List X} (seen : List X) (x : X) → rest ≡ x ∷ after → seen ++ rest ≡ all → (seen ++ x ∷ []) ++ after ≡ all
 seen_more {X} {after = after} seen x next split = append_assoc seen (x ∷ []) after ∙ ap (λ (xs : List X). seen ++ xs) (sym next) ∙ split
 
 kept_more : {K S : Type 0} (A : Alphabet K S) (ℓ : ℕ) (seen : List (Packet S)) (p : Packet S) (b : Bool) → ltb (A.code p.x) (A.q ^ ℓ) ≡ b
     → kept A ℓ (seen ++ p ∷ []) ≡ kept A ℓ seen ++ cond b (p ∷ []) []
-kept_more A ℓ seen p b e = kept_by_join (λ p. ltb (A.code p.x) (A.q ^ ℓ)) seen (p ∷ []) ∙ ap (λ t. kept A ℓ seen ++ cond t (p ∷ []) []) e
+kept_more A ℓ seen p b e = filter-append (λ p. ltb (A.code p.x) (A.q ^ ℓ)) seen (p ∷ []) ∙ ap (λ t. kept A ℓ seen ++ cond t (p ∷ []) []) e
 
 -- of all the packets of a feed the rest is to come, and the window was L
 pub record Filling {K S : Type 0} (A : Alphabet K S) (ℓ : ℕ) (L all rest M : List (Packet S)) (d : ℕ) (answer : Drained) : Type 0 where

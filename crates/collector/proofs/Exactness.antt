@@ -19,7 +19,7 @@ use Rattle.collector.specs.Machine as machine
 use Rattle.collector.specs.Session.{Allowed}
 use Rattle.collector.specs.Laws.{SolveLaws, Exact}
 use Rattle.collector.proofs.Spaces.{within_same}
-use Rattle.collector.proofs.Runs.{cell_apart}
+use Rattle.collector.proofs.Runs.{cell_apart, holds_same}
 
 module _ {K S : Type 0} {A : Alphabet K S} (laws : Lawful A) {k ℓ : ℕ} (allowed : Allowed k ℓ A.m) (ps : List (Packet S)) where
   abbrev U : Packet S → Type 0
@@ -88,7 +88,7 @@ module _ {K S : Type 0} {A : Alphabet K S} (laws : Lawful A) {k ℓ : ℕ} (allo
   solve_laws r dim output written (Err e) room gives refuses =
       let none = refused_none dim room (refuses e refl) in
       record {
-        exact = (λ (a, is). absurd (let z : ◌≡◌ {A = ℕ} 0 1 = cc in let y : ⊥ = omega arith in y), λ (u, w). absurd (none u w));
+        exact = (λ (a, is). absurd (cc), λ (u, w). absurd (none u w));
         only = one dim;
         wrote = λ u w. absurd (none u w);
         counts = λ a u t shared is w is-t is_shared. absurd (none u w);
@@ -96,9 +96,6 @@ module _ {K S : Type 0} {A : Alphabet K S} (laws : Lawful A) {k ℓ : ℕ} (allo
       }
 
 module _ {K S : Type 0} {A : Alphabet K S} (laws : Lawful A) (k ℓ : ℕ) (allowed : Allowed k ℓ A.m) where
-  holds_one : {ps qs : List (Packet S)} → holds ps ≡ holds qs → ps ≡ qs
-  holds_one e = cc
-
   -- nothing refuses a call on an open number before its own reasons
   not_reached : (m : Machine S) (b : ℕ) {ps : List (Packet S)} (e : Refusal) → b < 8 → Holds m b ps → ¬ First (machine.shut_refusals m b) e
   not_reached m b e h is (inl (high, q)) = omega arith
@@ -107,15 +104,15 @@ module _ {K S : Type 0} {A : Alphabet K S} (laws : Lawful A) (k ℓ : ℕ) (allo
 
   pub exact : Exact A k ℓ
   exact m n b ps output written (Ok a) (none, (qs, r, is, dim, no_cause, gives), still) h at room =
-      let same : qs ≡ ps = holds_one (sym is ∙ at) in
+      let same : qs ≡ ps = holds_same (sym is ∙ at) in
       let dim-ps = subst (λ (l : List (Packet S)). IsDim (packet_rows A) (Span (packet_rows A) l) r) same dim in
       let gives-ps = subst (λ (l : List (Packet S)). SolveAnswer A k ℓ (Span (packet_rows A) l) r output written a) same gives in
       solve_laws laws allowed ps r dim-ps output written (Ok a) room (λ b e. let eq : a ≡ b = cc in subst (SolveAnswer A k ℓ (Span (packet_rows A) ps) r output written) eq gives-ps)
-      (λ e f. absurd (let z : ◌≡◌ {A = ℕ} 0 1 = cc in let y : ⊥ = omega arith in y))
+      (λ e f. absurd (cc))
   exact m n b ps output written (Err e) (inl f, same, still) h at room = absurd (not_reached m b e h at f)
   exact m n b ps output written (Err e) (inr (qs, r, none, is, dim, f), left, still) h at room =
-      let same : qs ≡ ps = holds_one (sym is ∙ at) in
+      let same : qs ≡ ps = holds_same (sym is ∙ at) in
       let dim-ps = subst (λ (l : List (Packet S)). IsDim (packet_rows A) (Span (packet_rows A) l) r) same dim in
       let f_ps = subst (λ (l : List (Packet S)). First (solve_causes A k ℓ (Span (packet_rows A) l) r (length output)) e) same f in
-      solve_laws laws allowed ps r dim-ps output written (Err e) room (λ a g. absurd (let z : ◌≡◌ {A = ℕ} 0 1 = cc in let y : ⊥ = omega arith in y))
+      solve_laws laws allowed ps r dim-ps output written (Err e) room (λ a g. absurd (cc))
       (λ x g. let eq : e ≡ x = cc in subst (First (solve_causes A k ℓ (Span (packet_rows A) ps) r (length output))) eq f_ps)

@@ -22,12 +22,9 @@ use Rattle.collector.specs.Runs.{State, Run, Represents, Follows, Faithful}
 use Rattle.collector.specs.Laws.{PlainRun, left, number_rows, Orderless}
 use Rattle.collector.proofs.Windows.{window_span, window_unique}
 use Rattle.collector.proofs.Regions.{window_within, window_length}
-use Rattle.collector.proofs.Runs.{View, view, view_shut, view_open, cell_apart}
+use Rattle.collector.proofs.Runs.{View, view, view_shut, view_open, cell_apart, holds_same}
 
 module _ {S : Type 0} where
-  holds_same : {ps qs : List (Packet S)} → holds ps ≡ holds qs → ps ≡ qs
-  holds_same e = cc
-
   -- equal machines stay equal
   put_alike : (l m n o : Machine S) (b : ℕ) {x y : Cell S} → x ≡ y → ((c : ℕ) → l c ≡ m c) → Put l b x n → Put m b y o → (c : ℕ) → n c ≡ o c
   put_alike l m n o b e same p q c = go (ℕ_discrete c b)
@@ -105,13 +102,13 @@ module _ {K S : Type 0} (A : Alphabet K S) (laws : Lawful A) (k ℓ : ℕ) where
 
       go : View A laws ℓ (record_of s.session b) (number_rows A s b) (m b) → OpenRows (number_rows A s b) ps
       go (view_shut f c z) = absurd (cell_apart (sym e ∙ c))
-      go (view_open n d qs f c l o t) =
+      go (view_open tally qs f c l o t) =
           let same : qs ≡ ps = holds_same (sym c ∙ e) in
           record {
-            dimension = d;
+            dimension = tally.dimension;
             sound = o;
             spans = λ v. let w = window_span (packet_laws laws) o.0 v in
-                let here = subst (λ (l : List (Packet S)). Spans (packet_rows A) (take d (number_rows A s b)) (Span (packet_rows A) l)) same t v in
+                let here = subst (λ (l : List (Packet S)). Spans (packet_rows A) (take tally.dimension (number_rows A s b)) (Span (packet_rows A) l)) same t v in
                 (λ x. here.0 (w.1 x), λ x. w.0 (here.1 x));
             long = long;
           }

@@ -1,9 +1,11 @@
 -- A number's window after a write to one of the windows.
-use Rattle.std.proofs.Common.{◌≡◌, ℕ, ◌+◌, ◌*◌, ◌<◌, ◌≤◌, ◌≢◌, ◌⊎◌, List, ◌++◌, length, take, drop, sym, ap, ◌∙◌, inl, inr, mul-le-mul_right, suc-mul, arith, length-append, length-drop, length-take}
+use Rattle.std.proofs.Common.{◌≡◌, ℕ, ◌+◌, ◌-◌, ◌*◌, ◌<◌, ◌≤◌, ◌≢◌, ◌⊎◌, List, ◌++◌, length, take, drop, sym, ap, ◌∙◌, inl, inr, mul-le-mul_right, suc-mul, arith, length-append, length-drop, length-take}
+use Rattle.std.specs.declared.ops.Range.{Range}
+use borrow.Rule.Slice.PartMut.{put_mid}
 use native.Mathlib.Decide.{dec_lt}
 use Rattle.std.proofs.lemmas.List.{take_at, drop_at, drop-take, length-take-le, take-append-drop}
 use Rattle.std.proofs.lemmas.Slice.{take-put_mid_below, drop-put_mid}
-use Rattle.collector.specs.Regions.{window, put_window}
+use Rattle.collector.specs.Regions.{window, put_window, Place}
 
 -- the windows of two numbers lie apart
 pub windows_apart : (w b c : ℕ) → c ≢ b → (c * w + w ≤ b * w) ⊎ (b * w + w ≤ c * w)
@@ -43,6 +45,17 @@ module _ {V : Type 0} (w b : ℕ) (new rows : List V) (long : length new ≡ w) 
 -- a window of rows that are all there
 pub window_length : {V : Type 0} (w b : ℕ) (rows : List V) → b * w + w ≤ length rows → length (window w b rows) ≡ w
 window_length w b rows h = simp (length-take, length-drop) (omega arith)
+
+-- a number's window as the slice of its place has it
+module _ {V : Type 0} {w b : ℕ} {range : Range ℕ} (place : Place w b range) (rows : List V) where
+  place_long : range.end - range.start ≡ w
+  place_long = omega (arith, place.start, place.end)
+
+  pub part_is : take (range.end - range.start) (drop range.start rows) ≡ window w b rows
+  part_is = ap (λ n. take n (drop range.start rows)) place_long ∙ ap (λ i. take w (drop i rows)) place.start
+
+  pub put_is : (new : List V) → put_mid range.start (range.end - range.start) rows new ≡ put_window w b new rows
+  put_is new = ap (λ n. put_mid range.start n rows new) place_long ∙ ap (λ i. put_mid i w rows new) place.start
 
 -- a window written over itself
 pub put_same : {V : Type 0} (w b : ℕ) (rows : List V) → put_window w b (window w b rows) rows ≡ rows

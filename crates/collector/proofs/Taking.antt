@@ -1,5 +1,6 @@
 -- What a packet added to a number's window does, in the words of spaces.
-use Rattle.std.proofs.Common.{◌≡◌, ℕ, ◌+◌, ◌-◌, ◌*◌, ◌^◌, ◌<◌, ◌≤◌, Bool, true, false, cond, ltb, ◌↔◌, List, [], ◌∷◌, ◌++◌, length, take, drop, set, sym, refl, ap, ◌∙◌, subst, arith, le-ltb, lt-ltb}
+use Rattle.std.proofs.Common.{◌≡◌, ℕ, ◌+◌, ◌-◌, ◌^◌, ◌<◌, ◌≤◌, Bool, true, false, cond, ltb, ◌↔◌, List, [], ◌∷◌, ◌++◌, length, take, drop, set, Some, sym, refl, ap, ◌∙◌, subst, arith, le-ltb, lt-ltb}
+use Rattle.std.specs.declared.ops.Range.{Range}
 use borrow.Rule.Slice.PartMut.{put_mid}
 use Rattle.linear.specs.Span.{Span, Spans, Sum}
 use Rattle.linear.proofs.Rows.{plus_comm}
@@ -12,14 +13,15 @@ use Rattle.packet.specs.Packets.{packet_rows}
 use Rattle.packet.specs.Headers.{HeaderBelow}
 use Rattle.packet.proofs.Packets.{packet_laws}
 use Rattle.answer.specs.declared.Drained.{Drained}
+use Rattle.answer.specs.declared.Taken.{Taken}
+use Rattle.answer.specs.declared.Tally.{Tally}
 use Rattle.collector.specs.Windows.{Window, Added, PacketWindow}
 use Rattle.collector.specs.declared.session.Session.{Session}
-use Rattle.collector.specs.declared.session.Number.TheVariants.{Open}
 use Rattle.collector.specs.Answers.{TakeAnswer, DrainAnswer, kept, packet_of}
-use Rattle.collector.specs.Regions.{width, window, put_window}
+use Rattle.collector.specs.Regions.{width, Place}
 use Rattle.collector.specs.Session.{record_of, held, rows_of, taken_space, Ready, Filled, Taking, Draining}
 use Rattle.collector.proofs.Spaces.{sum_same, take_answer_same}
-use Rattle.collector.proofs.Regions.{window_within, window_length}
+use Rattle.collector.proofs.Regions.{window_within, window_length, part_is, put_is}
 use Rattle.collector.proofs.Room.{packet_room, packet_added}
 use Rattle.collector.proofs.Windows.{window_span, window_dim}
 
@@ -55,76 +57,75 @@ module _ {K S : Type 0} {A : Alphabet K S} (laws : Lawful A) where
       rose = rose_test d e rose a.count;
     }
 
--- a window as the slice `rows[from..from + width]` has it
-pub part_is : {K S : Type 0} (A : Alphabet K S) (ℓ m b : ℕ) (rows : List (Packet S)) → m ≡ A.m
-    → take (b * (ℓ + m) + (ℓ + m) - b * (ℓ + m)) (drop (b * (ℓ + m)) rows) ≡ window (width A ℓ) b rows
-part_is A ℓ m b rows e =
-    let long : b * (ℓ + m) + (ℓ + m) - b * (ℓ + m) ≡ ℓ + m = omega arith in
-    ap (λ n. take n (drop (b * (ℓ + m)) rows)) long ∙ ap (λ x. window (ℓ + x) b rows) e
+-- the header of a packet of two codes
+packet_header : {K S : Type 0} {A : Alphabet K S} → Lawful A → (ℓ x y : ℕ) → ℓ ≤ A.m → x < A.q ^ ℓ → HeaderBelow A ℓ (packet_of A x y)
+packet_header {A = A} laws ℓ x y fits h =
+    let inside : x < A.size = omega (arith, power_grows laws ℓ A.m fits, laws.extension.symbol_count) in
+    subst (λ c. c < A.q ^ ℓ) (sym (laws.codes.code_element x inside)) h
 
-pub put_is : {K S : Type 0} (A : Alphabet K S) (ℓ m b : ℕ) (rows new : List (Packet S)) → m ≡ A.m
-    → put_mid (b * (ℓ + m)) (b * (ℓ + m) + (ℓ + m) - b * (ℓ + m)) rows new ≡ put_window (width A ℓ) b new rows
-put_is A ℓ m b rows new e =
-    let long : b * (ℓ + m) + (ℓ + m) - b * (ℓ + m) ≡ ℓ + m = omega arith in
-    ap (λ n. put_mid (b * (ℓ + m)) n rows new) long ∙ ap (λ x. put_window (ℓ + x) b new rows) e
+-- an open number's window, as the slice `rows[place]`
+module _ {K S : Type 0} {A : Alphabet K S} (laws : Lawful A) {s : Session} {rows : List (Packet S)} {b : ℕ} (ready : Ready A s rows b)
+    {tally : Tally} (was : record_of s b ≡ Some tally) {range : Range ℕ} (place : Place (width A s.l) b range) where
+  abbrev part : List (Packet S)
+  part = take (range.end - range.start) (drop range.start rows)
 
-module _ {K S : Type 0} {A : Alphabet K S} (laws : Lawful A) (s : Session) (rows : List (Packet S)) (b : ℕ) (ready : Ready A s rows b)
-    (n d : ℕ) (was : record_of s b ≡ Open n d) where
-  -- the number's window, of the dimension that its record has
-  pub ready_packets : PacketWindow A s.l d (rows_of A s rows b)
-  ready_packets = subst (λ number. PacketWindow A s.l (held number) (rows_of A s rows b)) was ready.sound
+  pub part_long : length part ≡ width A s.l
+  part_long = ap length (part_is place rows) ∙ window_length (width A s.l) b rows (omega (arith, window_within (width A s.l) b ready.below, ready.room))
 
-  ready_space : (p : Packet S) → Span (packet_rows A) (take d (rows_of A s rows b)) p ↔ taken_space A s rows b p
-  ready_space = subst (λ number. (p : Packet S) → Span (packet_rows A) (take d (rows_of A s rows b)) p ↔ Span (packet_rows A) (take (held number) (rows_of A s rows b)) p) (sym was) (λ p. (λ x. x, λ x. x))
+  -- it has the dimension that the number's record has
+  pub part_packets : PacketWindow A s.l tally.dimension part
+  part_packets =
+      subst (PacketWindow A s.l tally.dimension) (sym (part_is place rows))
+      (subst (λ number. PacketWindow A s.l (held number) (rows_of A s rows b)) was ready.sound)
 
-  pub ready_long : length (rows_of A s rows b) ≡ width A s.l
-  ready_long = window_length (width A s.l) b rows (omega (arith, window_within (width A s.l) b ready.below, ready.room))
+  part_space : (p : Packet S) → Span (packet_rows A) (take tally.dimension part) p ↔ taken_space A s rows b p
+  part_space =
+      subst (λ L. (p : Packet S) → Span (packet_rows A) (take tally.dimension L) p ↔ taken_space A s rows b p) (sym (part_is place rows))
+      (subst (λ number. (p : Packet S) → Span (packet_rows A) (take tally.dimension (rows_of A s rows b)) p ↔ Span (packet_rows A) (take (held number) (rows_of A s rows b)) p) (sym was) (λ p. (λ x. x, λ x. x)))
 
-  pub ready_room : (p : Packet S) → HeaderBelow A s.l p → ¬ Span (packet_rows A) (rows_of A s rows b) p → d < length (rows_of A s rows b)
-  ready_room p h out = packet_room laws s.l ready.allowed.2 ready_packets (omega (arith, ready_long)) h out
+  pub part_room : (x y : ℕ) {p : Packet S} → x < A.q ^ s.l → p ≡ packet_of A x y → ¬ Span (packet_rows A) part p → tally.dimension < length part
+  part_room x y low is out =
+      packet_room laws s.l ready.allowed.2 part_packets (omega (arith, part_long)) (subst (HeaderBelow A s.l) (sym is) (packet_header laws s.l x y ready.allowed.2 low)) out
 
-  -- the window changed to one that spans the sum with further packets
-  pub filled_more : (ps : List (Packet S)) (e : ℕ) (M after : List (Packet S)) → length M ≡ length (rows_of A s rows b) → PacketWindow A s.l e M
-      → Spans (packet_rows A) (take e M) (Sum (packet_rows A) (Span (packet_rows A) (take d (rows_of A s rows b))) (Span (packet_rows A) ps))
-      → after ≡ put_window (width A s.l) b M rows → Filled A s rows b (Sum (packet_rows A) (taken_space A s rows b) (Span (packet_rows A) ps)) e after
-  filled_more ps e M after long w spans put = record {
+  -- changed to one that spans the sum with further packets
+  filled_more : (ps : List (Packet S)) {e : ℕ} {M : List (Packet S)} → length M ≡ length part → PacketWindow A s.l e M
+      → Spans (packet_rows A) (take e M) (Sum (packet_rows A) (Span (packet_rows A) (take tally.dimension part)) (Span (packet_rows A) ps))
+      → Filled A s rows b (Sum (packet_rows A) (taken_space A s rows b) (Span (packet_rows A) ps)) e (put_mid range.start (range.end - range.start) rows M)
+  filled_more ps {e} {M} long w spans = record {
     new = M;
-    long = long ∙ ready_long;
+    long = long ∙ part_long;
     sound = w;
-    spans = λ v. let both = sum_same (packet_rows A) ready_space (Span (packet_rows A) ps) v in (λ x. both.0 ((spans v).0 x), λ x. (spans v).1 (both.1 x));
-    put = put;
+    spans = λ v. let both = sum_same (packet_rows A) part_space (Span (packet_rows A) ps) v in (λ x. both.0 ((spans v).0 x), λ x. (spans v).1 (both.1 x));
+    put = put_is place rows M;
   }
 
-  pub taken_one : (x y : ℕ) (e : ℕ) (rose : Bool) (M after : List (Packet S)) → HeaderBelow A s.l (packet_of A x y)
-      → Added A.scalars (packet_rows A) d (packet_of A x y) (rows_of A s rows b) M e rose → length M ≡ length (rows_of A s rows b)
-      → after ≡ put_window (width A s.l) b M rows
-      → Taking A s rows b x y (record { dimension = e; rose = rose }) (record { k = s.k; l = s.l; numbers = set s.numbers b (Open (n + 1) e) }) after
-  taken_one x y e rose M after h a long put = record {
-    before = n;
-    dimension = d;
-    was = was;
-    gives = take_answer_same A ready_space (added_answer laws ready_packets.0 a);
-    only = record { same_k = refl; same_l = refl; changed = refl };
-    filled = filled_more (packet_of A x y ∷ []) e M after long (packet_added laws s.l ready.allowed.2 ready_packets h a) (added_spans laws ready_packets.0 a) put;
-  }
+  -- by the packet of two codes
+  pub taken_one : (x y : ℕ) {p : Packet S} (answer : Taken) {M : List (Packet S)} → x < A.q ^ s.l → p ≡ packet_of A x y
+      → Added A.scalars (packet_rows A) tally.dimension p part M answer.dimension answer.rose → length M ≡ length part
+      → Taking A s rows b x y answer (record { k = s.k; l = s.l; numbers = set s.numbers b (Some (record { taken = tally.taken + 1; dimension = answer.dimension })) })
+      (put_mid range.start (range.end - range.start) rows M)
+  taken_one x y answer {M} low is a long =
+      let added = subst (λ p. Added A.scalars (packet_rows A) tally.dimension p part M answer.dimension answer.rose) is a in
+      record {
+        before = tally;
+        was = was;
+        gives = take_answer_same A part_space (added_answer laws part_packets.0 added);
+        only = record { same_k = refl; same_l = refl; changed = refl };
+        filled = filled_more (packet_of A x y ∷ []) long (packet_added laws s.l ready.allowed.2 part_packets (packet_header laws s.l x y ready.allowed.2 low) added) (added_spans laws part_packets.0 added);
+      }
 
-  pub drained_all : (feed : List (Packet S)) (e : ℕ) (answer : Drained) (rest M after : List (Packet S)) → PacketWindow A s.l e M
-      → Spans (packet_rows A) (take e M) (Sum (packet_rows A) (Span (packet_rows A) (take d (rows_of A s rows b))) (Span (packet_rows A) (kept A s.l feed)))
-      → DrainAnswer A s.l feed answer → rest ≡ [] → length M ≡ length (rows_of A s rows b) → after ≡ put_window (width A s.l) b M rows
-      → Draining A s rows b feed answer rest (record { k = s.k; l = s.l; numbers = set s.numbers b (Open (n + answer.kept) e) }) after
-  drained_all feed e answer rest M after w spans gives emptied long put = record {
-    before = n;
-    dimension = d;
+  -- by the packets of a feed
+  pub drained_all : (feed : List (Packet S)) {e : ℕ} (answer : Drained) {rest M : List (Packet S)} → PacketWindow A s.l e M
+      → Spans (packet_rows A) (take e M) (Sum (packet_rows A) (Span (packet_rows A) (take tally.dimension part)) (Span (packet_rows A) (kept A s.l feed)))
+      → DrainAnswer A s.l feed answer → rest ≡ [] → length M ≡ length part
+      → Draining A s rows b feed answer rest (record { k = s.k; l = s.l; numbers = set s.numbers b (Some (record { taken = tally.taken + answer.kept; dimension = e })) })
+      (put_mid range.start (range.end - range.start) rows M)
+  drained_all feed {e} answer w spans gives emptied long = record {
+    before = tally;
     was = was;
     gives = gives;
     emptied = emptied;
     now = e;
     only = record { same_k = refl; same_l = refl; changed = refl };
-    filled = filled_more (kept A s.l feed) e M after long w spans put;
+    filled = filled_more (kept A s.l feed) long w spans;
   }
-
--- the header of a packet of two codes
-pub packet_header : {K S : Type 0} {A : Alphabet K S} → Lawful A → (ℓ x y : ℕ) → ℓ ≤ A.m → x < A.q ^ ℓ → HeaderBelow A ℓ (packet_of A x y)
-packet_header {A = A} laws ℓ x y fits h =
-    let inside : x < A.size = omega (arith, power_grows laws ℓ A.m fits, laws.extension.symbol_count) in
-    subst (λ c. c < A.q ^ ℓ) (sym (laws.codes.code_element x inside)) h

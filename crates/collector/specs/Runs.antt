@@ -7,14 +7,13 @@
 --   Follows       the machine takes the same calls with the same answers, and is represented at every point
 --   Faithful      every run follows the machine, from all shut
 -- Assumes nothing.
-use Rattle.std.specs.Prelude.{◌≡◌, ℕ, ◌*◌, ◌<◌, ◌≤◌, List, [], ◌∷◌, length, take, drop}
+use Rattle.std.specs.Prelude.{◌≡◌, ℕ, ◌*◌, ◌<◌, ◌≤◌, List, [], ◌∷◌, length, take, drop, Some, None, Option}
 use Rattle.linear.specs.Span.{Span, Spans}
 use Rattle.field.specs.Alphabet.{Alphabet}
 use Rattle.packet.specs.declared.Packet.{Packet}
 use Rattle.packet.specs.Packets.{packet_rows}
+use Rattle.answer.specs.declared.Tally.{Tally}
 use Rattle.collector.specs.declared.session.Session.{Session}
-use Rattle.collector.specs.declared.session.Number.{Number}
-use Rattle.collector.specs.declared.session.Number.TheVariants.{Shut, Open}
 use Rattle.collector.specs.Windows.{PacketWindow}
 use Rattle.collector.specs.Regions.{width, zero_rows}
 use Rattle.collector.specs.Session.{record_of, rows_of, Allowed, Opened, Took, Drains, Solves, Tallied, Closed}
@@ -37,12 +36,12 @@ module _ {K S : Type 0} (A : Alphabet K S) where
   Run s [] = Unit {0}
   Run s (call ∷ calls) = (t : State S) × Step s call t × Run t calls
 
-  abbrev pub Stands : (ℓ : ℕ) → Number → List (Packet S) → Cell S → Type 0
-  Stands ℓ Shut rows shut = rows ≡ zero_rows A (width A ℓ)
-  Stands ℓ Shut rows (holds ps) = ⊥
-  Stands ℓ (Open taken dimension) rows shut = ⊥
-  Stands ℓ (Open taken dimension) rows (holds ps) =
-      (taken ≡ length ps) × PacketWindow A ℓ dimension rows × Spans (packet_rows A) (take dimension rows) (Span (packet_rows A) ps)
+  abbrev pub Stands : (ℓ : ℕ) → Option Tally → List (Packet S) → Cell S → Type 0
+  Stands ℓ None rows shut = rows ≡ zero_rows A (width A ℓ)
+  Stands ℓ None rows (holds ps) = ⊥
+  Stands ℓ (Some tally) rows shut = ⊥
+  Stands ℓ (Some tally) rows (holds ps) =
+      (tally.taken ≡ length ps) × PacketWindow A ℓ tally.dimension rows × Spans (packet_rows A) (take tally.dimension rows) (Span (packet_rows A) ps)
 
   -- `later` are the rows after the eight windows
   pub record Represents (k ℓ : ℕ) (later : List (Packet S)) (s : State S) (m : Machine S) : Type 0 where

@@ -5,17 +5,12 @@ mod draining;
 mod solving;
 mod taking;
 
-// What the session keeps of a number. Its rows hold the reduced form of what was taken.
-#[derive(Clone, Copy)]
-pub(crate) enum Number {
-    Shut,
-    // how many packets were taken, and the dimension of what they span
-    Open { taken: usize, dimension: usize },
-}
+use answer::Tally;
 
+// A number that is open has a tally, and its rows hold the reduced form of what was taken.
 #[derive(Drop)]
 pub struct Session {
     k: usize,
     l: usize,
-    numbers: [Number; 8],
+    numbers: [Option<Tally>; 8],
 }

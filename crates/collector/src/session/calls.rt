@@ -6,8 +6,8 @@ ghost use Rattle.collector.specs.Session.{Started, Opened, Tallied, Closed};
 ghost use Rattle.collector.specs.Runs.{Faithful};
 ghost use Rattle.collector.specs.Laws.{Orderless, Exact};
 
-use super::checks::{allowed, clear};
-use super::{Number, Session};
+use super::Session;
+use super::checks::{clear, sized};
 use answer::Tally;
 use answer::refusal::Refusal;
 use field::SymbolField;
@@ -26,20 +26,12 @@ impl Session {
         ensures orderless { (s : SessionOf) → result ≡ Ok s → Orderless (alphabet F.Scalar.FiniteField F.FiniteField F.SymbolField) (record { session = s; rows = rows.new }) }
         ensures exact { (s : SessionOf) → result ≡ Ok s → Exact (alphabet F.Scalar.FiniteField F.FiniteField F.SymbolField) s.k s.l }
     {
-        let m = F::m();
-        if !allowed(k, l, m) {
-            return Err(Refusal::Parameters);
-        }
-        let count = 8 * (l + m);
-        if rows.len() < count {
-            return Err(Refusal::Rows);
-        }
-        let windows = &mut rows[0..count];
-        clear(windows);
+        let count = sized(k, l, rows)?;
+        clear(&mut rows[0..count]);
         Ok(Session {
             k,
             l,
-            numbers: [Number::Shut; 8],
+            numbers: [None; 8],
         })
     }
 
@@ -47,24 +39,21 @@ impl Session {
     pub fn open<F: SymbolField>(&mut self, rows: &[Packet<F>], number: u8) -> Result<(), Refusal>
         ensures { Opened (alphabet F.Scalar.FiniteField F.FiniteField F.SymbolField) self.old rows.now number result self.new }
     {
-        match self.look(rows, number)? {
-            Number::Shut => {
-                self.numbers[number as usize] = Number::Open {
-                    taken: 0,
-                    dimension: 0,
-                };
-                Ok(())
-            }
-            Number::Open { .. } => Err(Refusal::AlreadyOpen),
+        if self.look(rows, number)?.is_some() {
+            return Err(Refusal::AlreadyOpen);
         }
+        self.numbers[number as usize] = Some(Tally {
+            taken: 0,
+            dimension: 0,
+        });
+        Ok(())
     }
 
     // How many packets were taken, and the dimension of what they span.
     pub fn tally<F: SymbolField>(&self, rows: &[Packet<F>], number: u8) -> Result<Tally, Refusal>
         ensures { Tallied (alphabet F.Scalar.FiniteField F.FiniteField F.SymbolField) self.now rows.now number result }
     {
-        let (taken, dimension) = self.reach(rows, number)?;
-        Ok(Tally { taken, dimension })
+        self.reach(rows, number)
     }
 
     // Shuts a number, and zeroes its rows.
@@ -75,12 +64,10 @@ impl Session {
     ) -> Result<(), Refusal>
         ensures { Closed (alphabet F.Scalar.FiniteField F.FiniteField F.SymbolField) self.old rows.old number result self.new rows.new }
     {
-        let (_, _) = self.reach(rows, number)?;
-        let width = self.l + F::m();
-        let from = number as usize * width;
-        let window = &mut rows[from..from + width];
-        clear(window);
-        self.numbers[number as usize] = Number::Shut;
+        let _ = self.reach(rows, number)?;
+        let place = self.place::<F>(number);
+        clear(&mut rows[place]);
+        self.numbers[number as usize] = None;
         Ok(())
     }
 }

@@ -1,23 +1,37 @@
 // What calls of a session share: the refusals, each tested in its order, and the zeroing of rows.
-ghost use Rattle.std.specs.Prelude.{◌≡◌, true, ◌↔◌, length};
+ghost use Rattle.std.specs.Prelude.{◌≡◌, ◌+◌, ◌<◌, ◌≤◌, length};
 ghost use Rattle.field.specs.Alphabet.{alphabet};
-ghost use Rattle.collector.specs.Regions.{zero_rows};
-ghost use Rattle.collector.specs.Session.{Allowed, held, Looked, Reached};
+ghost use Rattle.collector.specs.Regions.{zero_rows, Place};
+ghost use Rattle.collector.specs.Session.{Sized, Looked, Reached};
 
-use super::{Number, Session};
+use super::Session;
 use crate::window::is_window;
+use answer::Tally;
 use answer::refusal::Refusal;
 use field::SymbolField;
 use packet::Packet;
+use std::ops::Range;
 
 // No number's list grows longer: `list_limit` in the specs.
 pub(crate) const LIST_LIMIT: usize = 10_000;
 
-// Whether 1 ≤ k ≤ ℓ ≤ m.
-pub(crate) fn allowed(k: usize, l: usize, m: usize) -> bool
-    ensures { (result ≡ true) ↔ Allowed k l m }
+// How many rows the eight numbers have, past what refuses k, ℓ and the rows.
+pub(crate) fn sized<F: SymbolField>(
+    k: usize,
+    l: usize,
+    rows: &[Packet<F>],
+) -> Result<usize, Refusal>
+    ensures { Sized (alphabet F.Scalar.FiniteField F.FiniteField F.SymbolField) k l rows.now result }
 {
-    1 <= k && k <= l && l <= m
+    let m = F::m();
+    if k < 1 || l < k || m < l {
+        return Err(Refusal::Parameters);
+    }
+    let count = 8 * (l + m);
+    if rows.len() < count {
+        return Err(Refusal::Rows);
+    }
+    Ok(count)
 }
 
 // Zeroes the rows.
@@ -25,65 +39,51 @@ pub(crate) fn clear<F: SymbolField>(rows: &mut [Packet<F>])
     ensures { rows.new ≡ zero_rows (alphabet F.Scalar.FiniteField F.FiniteField F.SymbolField) (length rows.old) }
 {
     let zero = Packet::zero();
-    for i in 0..rows.len() {
-        rows[i] = zero;
-    }
-}
-
-impl Number {
-    // The dimension held: 0 when shut.
-    fn held(self) -> usize
-        ensures { result ≡ held self }
-    {
-        match self {
-            Number::Shut => 0,
-            Number::Open {
-                taken: _,
-                dimension,
-            } => dimension,
-        }
+    for row in rows.iter_mut() {
+        *row = zero;
     }
 }
 
 impl Session {
+    // Where a number's rows stand.
+    pub(crate) fn place<F: SymbolField>(&self, number: u8) -> Range<usize>
+        requires { (number < 8) × (self.now.l ≤ F.SymbolField.m) }
+        ensures { Place (self.now.l + F.SymbolField.m) number result }
+    {
+        let width = self.l + F::m();
+        let from = number as usize * width;
+        from..from + width
+    }
+
     // The record of a number, past the refusals that every call shares.
     pub(crate) fn look<F: SymbolField>(
         &self,
         rows: &[Packet<F>],
         number: u8,
-    ) -> Result<Number, Refusal>
+    ) -> Result<Option<Tally>, Refusal>
         ensures { Looked (alphabet F.Scalar.FiniteField F.FiniteField F.SymbolField) self.now rows.now number result }
     {
-        let m = F::m();
-        if !allowed(self.k, self.l, m) {
-            return Err(Refusal::Parameters);
-        }
-        let width = self.l + m;
-        if rows.len() < 8 * width {
-            return Err(Refusal::Rows);
-        }
-        if number > 7 {
-            return Err(Refusal::BlockNumber);
-        }
-        let record = self.numbers[number as usize];
-        let from = number as usize * width;
-        if !is_window(&rows[from..from + width], record.held(), self.l) {
+        sized(self.k, self.l, rows)?;
+        let record = *self
+            .numbers
+            .get(number as usize)
+            .ok_or(Refusal::BlockNumber)?;
+        let dimension = record.map_or(0, |tally| tally.dimension);
+        let place = self.place::<F>(number);
+        if !is_window(&rows[place], dimension, self.l) {
             return Err(Refusal::Rows);
         }
         Ok(record)
     }
 
-    // How many packets an open number has taken, and their dimension.
+    // The tally of an open number.
     pub(crate) fn reach<F: SymbolField>(
         &self,
         rows: &[Packet<F>],
         number: u8,
-    ) -> Result<(usize, usize), Refusal>
+    ) -> Result<Tally, Refusal>
         ensures { Reached (alphabet F.Scalar.FiniteField F.FiniteField F.SymbolField) self.now rows.now number result }
     {
-        match self.look(rows, number)? {
-            Number::Shut => Err(Refusal::NotOpen),
-            Number::Open { taken, dimension } => Ok((taken, dimension)),
-        }
+        self.look(rows, number)?.ok_or(Refusal::NotOpen)
     }
 }

@@ -8,12 +8,12 @@ ghost use Rattle.collector.specs.Windows.{PacketWindow};
 ghost use Rattle.collector.specs.Answers.{kept, DrainAnswer};
 ghost use Rattle.collector.specs.Session.{Admitted, Drains};
 
+use super::Session;
 use super::checks::LIST_LIMIT;
-use super::{Number, Session};
 use crate::adding::add_row;
 use crate::window::header_limit;
-use answer::Drained;
 use answer::refusal::Refusal;
+use answer::{Drained, Tally};
 use feed::Feed;
 use field::{FiniteField, SymbolField};
 use packet::Packet;
@@ -48,20 +48,20 @@ fn fill<F: SymbolField, D: Feed<Item = Packet<F>>>(
 }
 
 impl Session {
-    // How many packets an open number has taken, and their dimension, past all that refuses `more` packets.
+    // The tally of an open number, past all that refuses `more` packets.
     fn admit<F: SymbolField>(
         &self,
         rows: &[Packet<F>],
         number: u8,
         more: usize,
-    ) -> Result<(usize, usize), Refusal>
+    ) -> Result<Tally, Refusal>
         ensures { Admitted (alphabet F.Scalar.FiniteField F.FiniteField F.SymbolField) self.now rows.now number more result }
     {
-        let (taken, dimension) = self.reach(rows, number)?;
-        if LIST_LIMIT < taken.saturating_add(more) {
+        let tally = self.reach(rows, number)?;
+        if LIST_LIMIT < tally.taken.saturating_add(more) {
             return Err(Refusal::ListFull);
         }
-        Ok((taken, dimension))
+        Ok(tally)
     }
 
     // Adds a feed's packets to a number, passing over those with a header from q^ℓ on. The feed is emptied.
@@ -75,15 +75,13 @@ impl Session {
         ensures refused { (e : RefusalOf) → result ≡ Err e → feed.new ≡ feed.old }
         ensures same { D.lenders feed.new ≡ D.lenders feed.old }
     {
-        let (taken, dimension) = self.admit(rows, number, D::len(feed))?;
-        let width = self.l + F::m();
-        let from = number as usize * width;
-        let window = &mut rows[from..from + width];
-        let (dimension, drained) = fill(window, dimension, self.l, feed);
-        self.numbers[number as usize] = Number::Open {
-            taken: taken + drained.kept,
+        let tally = self.admit(rows, number, D::len(feed))?;
+        let place = self.place::<F>(number);
+        let (dimension, drained) = fill(&mut rows[place], tally.dimension, self.l, feed);
+        self.numbers[number as usize] = Some(Tally {
+            taken: tally.taken + drained.kept,
             dimension,
-        };
+        });
         Ok(drained)
     }
 }

@@ -19,7 +19,7 @@ impl Session {
     ) -> Result<Solved, Refusal>
         ensures { Solves (alphabet F.Scalar.FiniteField F.FiniteField F.SymbolField) self.now rows.now number output.old result output.new }
     {
-        let (_, dimension) = self.reach(rows, number)?;
+        let dimension = self.reach(rows, number)?.dimension;
         if output.len() < self.k {
             return Err(Refusal::OutputShort);
         }
@@ -29,10 +29,8 @@ impl Session {
         if 2 * self.l < dimension + self.k {
             return Err(Refusal::DimensionHigh(dimension));
         }
-        let from = number as usize * (self.l + F::m());
-        match decode(self.k, self.l, &rows[from..from + dimension], output) {
-            Some(solved) => Ok(solved),
-            None => Err(Refusal::NoneNear(dimension)),
-        }
+        let place = self.place::<F>(number);
+        let window = &rows[place];
+        decode(self.k, self.l, &window[0..dimension], output).ok_or(Refusal::NoneNear(dimension))
     }
 }

@@ -4,6 +4,6 @@ use Rattle.field.proofs.Members.{alphabet}
 use Rattle.collector.specs.Regions.{zero_rows}
 use Rattle.collector.proofs.session.checks.clear.Given as goal
 
-abbrev pub invariant-loop-i : goal.invariant-loop-i
-invariant-loop-i g l =
-    l.rows ≡ zero_rows (alphabet g.F.Scalar.FiniteField g.F.FiniteField g.F.SymbolField) l.i ++ drop l.i l.initial.rows
+abbrev pub invariant-loop-row : goal.invariant-loop-row
+invariant-loop-row g l =
+    l.rows ≡ zero_rows (alphabet g.F.Scalar.FiniteField g.F.FiniteField g.F.SymbolField) l.row-index ++ drop l.row-index l.initial.rows
