@@ -6,8 +6,7 @@ use Rattle.packet.specs.declared.Packet.{Packet}
 use Rattle.linearized.specs.Polynomials.{at}
 use Rattle.linearized.specs.Interpolation.{Pair, State, pair_value, Raises, Combines, Next}
 use Rattle.linearized.specs.Interpolation.Next.{raise_first, raise_second}
-use Rattle.collector.specs.declared.interpolation.State.{State as CodeState}
-use Rattle.collector.specs.Interpolation.{pair_of, state_of, mixed, Mixes}
+use Rattle.collector.specs.Interpolation.{mixed, Mixes}
 
 module _ {K S : Type 0} (A : Alphabet K S) where
   open A use {symbols as G}
@@ -37,22 +36,22 @@ module _ {K S : Type 0} (A : Alphabet K S) where
   vanishing is (inr o) = inr o
 
   -- v and w are the values of the two pairs at p
-  module _ (s : CodeState) (p : Packet S) (v w less : S) (is-v : v ≡ pair_value A (pair_of A s.first) p) (is-w : w ≡ pair_value A (pair_of A s.second) p) (is-less : less ≡ neg v) (t : CodeState) where
+  module _ (s : State S) (p : Packet S) (v w less : S) (is-v : v ≡ pair_value A s.first p) (is-w : w ≡ pair_value A s.second p) (is-less : less ≡ neg v) (t : State S) where
     abbrev moved : ℕ → ℕ → State S
-    moved first_degree second_degree = record { first = pair_of A t.first; second = pair_of A t.second; first_degree = first_degree; second_degree = second_degree }
+    moved first_degree second_degree = record { first = t.first; second = t.second; first_degree = first_degree; second_degree = second_degree }
 
-    pub first_moved : ¬ (v ≡ zero) → (w ≡ zero) ⊎ (s.first.degree ≤ s.second.degree) →
-        Mixes A less (pair_of A s.second) w (pair_of A s.first) (pair_of A t.second) → t.second.degree ≡ s.second.degree →
-        Raises A v (pair_of A s.first) (pair_of A t.first) → t.first.degree ≡ s.first.degree + 1 → Next A (state_of A s) p (state_of A t)
+    pub first_moved : ¬ (v ≡ zero) → (w ≡ zero) ⊎ (s.first_degree ≤ s.second_degree) →
+        Mixes A less s.second w s.first t.second → t.second_degree ≡ s.second_degree →
+        Raises A v s.first t.first → t.first_degree ≡ s.first_degree + 1 → Next A s p t
     first_moved some order mixes same raises more =
-        subst (Next A (state_of A s) p) (ap₂ moved (sym more) (sym same))
-        (raise_first (λ z. some (is-v ∙ z)) (vanishing is-w order) (subst (λ x. Raises A x (pair_of A s.first) (pair_of A t.first)) is-v raises)
-        (mixed_second _ _ less w (pair_of A s.first) (pair_of A s.second) (pair_of A t.second) (is-less ∙ ap neg is-v) is-w mixes))
+        subst (Next A s p) (ap₂ moved (sym more) (sym same))
+        (raise_first (λ z. some (is-v ∙ z)) (vanishing is-w order) (subst (λ x. Raises A x s.first t.first) is-v raises)
+        (mixed_second _ _ less w s.first s.second t.second (is-less ∙ ap neg is-v) is-w mixes))
 
-    pub second_moved : ¬ (w ≡ zero) → (v ≡ zero) ⊎ (s.second.degree < s.first.degree) →
-        Mixes A w (pair_of A s.first) less (pair_of A s.second) (pair_of A t.first) → t.first.degree ≡ s.first.degree →
-        Raises A w (pair_of A s.second) (pair_of A t.second) → t.second.degree ≡ s.second.degree + 1 → Next A (state_of A s) p (state_of A t)
+    pub second_moved : ¬ (w ≡ zero) → (v ≡ zero) ⊎ (s.second_degree < s.first_degree) →
+        Mixes A w s.first less s.second t.first → t.first_degree ≡ s.first_degree →
+        Raises A w s.second t.second → t.second_degree ≡ s.second_degree + 1 → Next A s p t
     second_moved some order mixes same raises more =
-        subst (Next A (state_of A s) p) (ap₂ moved (sym same) (sym more))
-        (raise_second (λ z. some (is-w ∙ z)) (vanishing is-v order) (subst (λ x. Raises A x (pair_of A s.second) (pair_of A t.second)) is-w raises)
-        (mixed_first _ _ w less (pair_of A s.first) (pair_of A s.second) (pair_of A t.first) is-w (is-less ∙ ap neg is-v) mixes))
+        subst (Next A s p) (ap₂ moved (sym same) (sym more))
+        (raise_second (λ z. some (is-w ∙ z)) (vanishing is-v order) (subst (λ x. Raises A x s.second t.second) is-w raises)
+        (mixed_first _ _ w less s.first s.second t.first is-w (is-less ∙ ap neg is-v) mixes))

@@ -2,7 +2,6 @@
 --   Candidate    f is the quotient of −Qx by Qy, for a pair that interpolates the space U of dimension r
 --   Quotient     a candidate by its codes, or none where the pair has no part in y
 --   Decodes      the message within ℓ − k of U is written, with what was lost and what is foreign; or there is none
---   Counts       the answer for a space of dimension r that shares `shared` dimensions with a codeword space
 -- Assumes nothing.
 use Rattle.std.specs.Prelude.{◌≡◌, ℕ, List, length, Some, None, Option}
 use Rattle.field.specs.Alphabet.{Alphabet}
@@ -10,16 +9,10 @@ use Rattle.packet.specs.declared.Packet.{Packet}
 use Rattle.linearized.specs.Polynomials.{counted, Divided}
 use Rattle.linearized.specs.Coefficients.{IsNegative}
 use Rattle.linearized.specs.Interpolation.{τ, Interpolates}
-use Rattle.linearized.specs.Distance.{Within, lost, foreign, faults}
+use Rattle.linearized.specs.Distance.{Within}
 use Rattle.answer.specs.declared.Solved.{Solved}
 use Rattle.collector.specs.Answers.{SolveAnswer}
 use Rattle.collector.specs.Interpolation.{room, polynomial}
-
-pub record Counts (ℓ r shared : ℕ) (answer : Solved) : Type 0 where
-  pub is_dimension : answer.dimension ≡ r
-  pub is_lost : answer.lost ≡ lost ℓ shared
-  pub is_foreign : answer.foreign ≡ foreign r shared
-  pub is_faults : answer.faults ≡ faults ℓ r shared
 
 module _ {K S : Type 0} (A : Alphabet K S) where
   pub record Candidate (k r : ℕ) (U : Packet S → Type 0) (f : List S) : Type 0 where

@@ -1,44 +1,32 @@
 // Decoding: from the packets of a space to the message within the radius, or to none.
-ghost use Rattle.std.specs.Prelude.{◌≡◌, ◌+◌, ◌*◌, ◌^◌, ◌<◌, ◌≤◌, ◌++◌, length, drop};
+ghost use Rattle.std.specs.Prelude.{◌≡◌, ◌+◌, ◌*◌, ◌<◌, ◌≤◌, ◌++◌, length, drop};
 ghost use Rattle.linear.specs.Span.{Each, Span, IsDim};
 ghost use Rattle.field.specs.Alphabet.{alphabet};
 ghost use Rattle.packet.specs.Packets.{packet_rows};
 ghost use Rattle.packet.specs.Headers.{HeaderBelow};
-ghost use Rattle.linearized.specs.Coefficients.{IsNegative};
 ghost use Rattle.collector.specs.Interpolation.{polynomial};
-ghost use Rattle.collector.specs.Decoding.{Quotient, Decodes, Counts};
+ghost use Rattle.collector.specs.Decoding.{Quotient, Decodes};
 
-use crate::interpolation::{PLACES, interpolate};
+use crate::interpolation::{Pair, interpolate};
 use crate::measuring::measure;
+use crate::polynomial::PLACES;
 use answer::Solved;
 use field::{FiniteField, SymbolField};
 use packet::Packet;
 use subspace_code::division::divide_held;
 use subspace_code::holding::{AsCodes, Holding};
 
-// −f in place of f.
-fn negate<F: SymbolField>(f: &mut [u32])
-    ensures { IsNegative F.FiniteField.field (polynomial (alphabet F.Scalar.FiniteField F.FiniteField F.SymbolField) f.old) (polynomial (alphabet F.Scalar.FiniteField F.FiniteField F.SymbolField) f.new) }
-{
-    for i in 0..f.len() {
-        let here: F = AsCodes::load(f[i]);
-        f[i] = AsCodes::store(here.negative());
-    }
-}
-
 // The quotient of −Qx by Qy for a pair that vanishes on the packets; absent where Qy is zero.
 fn quotient<F: SymbolField>(k: usize, packets: &[Packet<F>]) -> Option<[u32; PLACES]>
     requires { (0 < k) × ((k ≤ 16) × (length packets.now ≤ 32)) }
     ensures { Quotient (alphabet F.Scalar.FiniteField F.FiniteField F.SymbolField) k (length packets.now) (Span (packet_rows (alphabet F.Scalar.FiniteField F.FiniteField F.SymbolField)) packets.now) result }
 {
-    let mut pair = interpolate(k, packets);
-    negate::<F>(&mut pair.x);
+    let Pair { mut x, y, .. } = interpolate(k, packets);
+    x.negate();
     let mut codes = [0; PLACES];
     let mut rest = [0; PLACES];
-    match divide_held::<F, AsCodes>(&pair.x, &pair.y, &mut codes, &mut rest) {
-        Ok(_) => Some(codes),
-        Err(_) => None,
-    }
+    divide_held::<F, AsCodes>(x.codes(), y.codes(), &mut codes, &mut rest).ok()?;
+    Some(codes)
 }
 
 // Writes the symbols of the codes to the first places.
@@ -46,23 +34,8 @@ fn write<F: SymbolField>(codes: &[u32], output: &mut [F])
     requires { length codes.now ≤ length output.old }
     ensures { output.new ≡ polynomial (alphabet F.Scalar.FiniteField F.FiniteField F.SymbolField) codes.now ++ drop (length codes.now) output.old }
 {
-    for i in 0..codes.len() {
-        output[i] = AsCodes::load(codes[i]);
-    }
-}
-
-// The answer for a space of dimension r that shares `shared` dimensions with the codeword space.
-fn counts(l: usize, r: usize, shared: usize) -> Solved
-    requires { (shared ≤ l) × ((shared ≤ r) × (l + r < 2 ^ 64)) }
-    ensures { Counts l r shared result }
-{
-    let lost = l - shared;
-    let foreign = r - shared;
-    Solved {
-        dimension: r,
-        lost,
-        foreign,
-        faults: lost + foreign,
+    for (i, code) in codes.iter().enumerate() {
+        output[i] = AsCodes::load(*code);
     }
 }
 
@@ -82,12 +55,19 @@ pub(crate) fn decode<F: SymbolField>(
     ensures { Decodes (alphabet F.Scalar.FiniteField F.FiniteField F.SymbolField) k l (Span (packet_rows (alphabet F.Scalar.FiniteField F.FiniteField F.SymbolField)) packets.now) (length packets.now) output.old output.new result }
 {
     let codes = quotient(k, packets)?;
-    let message = &codes[0..k];
+    let message = &codes[..k];
     let r = packets.len();
     let foreign = measure(message, packets);
     if r < 2 * foreign + k {
         return None;
     }
+    let shared = r - foreign;
+    let lost = l - shared;
     write(message, output);
-    Some(counts(l, r, r - foreign))
+    Some(Solved {
+        dimension: r,
+        lost,
+        foreign,
+        faults: lost + foreign,
+    })
 }

@@ -1,180 +1,141 @@
 // Interpolation: a pair of polynomials that vanishes on packets, found packet by packet.
-ghost use Rattle.std.specs.Prelude.{◌≡◌, ℕ, ◌+◌, ◌-◌, ◌<◌, ◌≤◌, ◌⊎◌, length, ◌≢◌};
+ghost use Rattle.std.specs.Prelude.{◌≡◌, ◌+◌, ◌<◌, ◌≤◌, ◌⊎◌, length, ◌≢◌};
 ghost use Rattle.linear.specs.Span.{Span};
 ghost use Rattle.field.specs.Alphabet.{alphabet};
 ghost use Rattle.packet.specs.Packets.{packet_rows};
 ghost use Rattle.linearized.specs.Interpolation.{τ, pair_value, Interpolates, Raises, IsStart, Next};
-ghost use Rattle.collector.specs.Interpolation.{room, polynomial, written, mixed, shifted, pair_of, state_of, Reaches, Mixes, FirstMoves};
+ghost use Rattle.collector.specs.Interpolation.{room, Mixes, FirstMoves};
 
+use crate::polynomial::Polynomial;
 use crate::scalar::is_zero;
 use field::{FiniteField, SymbolField};
 use packet::Packet;
-use subspace_code::evaluation::evaluate;
-use subspace_code::holding::{AsCodes, Holding};
+use std::cmp;
+use std::marker::Model;
 
-// Room for a pair's coefficients: 32 packets raise the degrees by 32, from 15 together at most.
-pub(crate) const PLACES: usize = 48;
-
-// A polynomial in x and one in y, their coefficients held as codes, with the pair's weighted degree:
+// A polynomial in x and one in y, with the pair's weighted degree:
 // a place in x counts as itself, a place in y counts k − 1 more.
-#[derive(Clone, Copy)]
-pub(crate) struct Pair {
-    pub(crate) x: [u32; PLACES],
-    pub(crate) y: [u32; PLACES],
-    pub(crate) degree: usize,
-}
-
-// The first pair leads in x, the second in y.
 #[derive(Drop)]
-pub(crate) struct State {
-    pub(crate) first: Pair,
-    pub(crate) second: Pair,
+pub(crate) struct Pair<F: SymbolField> {
+    pub(crate) x: Polynomial<F>,
+    pub(crate) y: Polynomial<F>,
+    degree: usize,
 }
 
-// a f + b g in place of f, at the first places.
-fn mix<F: SymbolField>(f: &mut [u32], a: F, g: &[u32], b: F, places: usize)
-    requires { (places ≤ length f.old) × (places ≤ length g.now) }
-    ensures { polynomial (alphabet F.Scalar.FiniteField F.FiniteField F.SymbolField) f.new ≡ written (mixed (alphabet F.Scalar.FiniteField F.FiniteField F.SymbolField) a (polynomial (alphabet F.Scalar.FiniteField F.FiniteField F.SymbolField) f.old) b (polynomial (alphabet F.Scalar.FiniteField F.FiniteField F.SymbolField) g.now)) places (polynomial (alphabet F.Scalar.FiniteField F.FiniteField F.SymbolField) f.old) }
-{
-    for i in 0..places {
-        let left: F = AsCodes::load(f[i]);
-        let right: F = AsCodes::load(g[i]);
-        f[i] = AsCodes::store(a.times(left).plus(b.times(right)));
-    }
+impl<F: SymbolField> Model for Pair<F> {
+    ghost use Rattle.std.specs.Prelude.{◌+◌, ◌≤◌, length};
+    ghost use Rattle.collector.specs.Interpolation.{Weighted};
+
+    ghost Value = { Weighted F };
+
+    ghost view = { λ p. record { pair = record { x = p.x; y = p.y }; degree = p.degree } };
+
+    // No coefficient stands past the degree.
+    ghost invariant = { λ p. (length p.x ≤ p.degree + 1) × (length p.y ≤ p.degree + 1) };
 }
 
-// raise(f) + c f in place of f, at the first places.
-fn shift<F: SymbolField>(f: &mut [u32], c: F, places: usize)
-    requires { places ≤ length f.old }
-    ensures { polynomial (alphabet F.Scalar.FiniteField F.FiniteField F.SymbolField) f.new ≡ written (shifted (alphabet F.Scalar.FiniteField F.FiniteField F.SymbolField) c (polynomial (alphabet F.Scalar.FiniteField F.FiniteField F.SymbolField) f.old)) places (polynomial (alphabet F.Scalar.FiniteField F.FiniteField F.SymbolField) f.old) }
-{
-    let mut before = F::zero();
-    for i in 0..places {
-        let here: F = AsCodes::load(f[i]);
-        f[i] = AsCodes::store(before.raise().plus(c.times(here)));
-        before = here;
-    }
-}
-
-impl Pair {
-    // How many places in y the degree reaches.
-    fn y_places(&self, k: usize) -> usize
-        requires { self.now.degree < room }
-        ensures { result ≡ self.now.degree + 2 - k }
-    {
-        (self.degree + 2).saturating_sub(k)
-    }
-
+impl<F: SymbolField> Pair<F> {
     // Qx(x) + Qy(y).
-    fn value<F: SymbolField>(&self, k: usize, packet: Packet<F>) -> F
-        requires small { (0 < k) × (self.now.degree < room) }
-        requires own { Reaches (alphabet F.Scalar.FiniteField F.FiniteField F.SymbolField) k (pair_of (alphabet F.Scalar.FiniteField F.FiniteField F.SymbolField) self.now) self.now.degree }
-        ensures { result ≡ pair_value (alphabet F.Scalar.FiniteField F.FiniteField F.SymbolField) (pair_of (alphabet F.Scalar.FiniteField F.FiniteField F.SymbolField) self.now) packet }
+    fn value(&self, packet: Packet<F>) -> F
+        ensures { result ≡ pair_value (alphabet F.Scalar.FiniteField F.FiniteField F.SymbolField) self.now.pair packet }
     {
-        let in_x: F = evaluate::<F, AsCodes>(&self.x[0..self.degree + 1], packet.x);
-        let in_y: F = evaluate::<F, AsCodes>(&self.y[0..self.y_places(k)], packet.y);
-        in_x.plus(in_y)
+        self.x.value(packet.x).plus(self.y.value(packet.y))
     }
 
     // a times this pair plus b times the other, in place of this pair.
-    fn mix<F: SymbolField>(&mut self, k: usize, a: F, other: &Pair, b: F)
-        requires small { (0 < k) × (self.old.degree < room) }
-        requires own { Reaches (alphabet F.Scalar.FiniteField F.FiniteField F.SymbolField) k (pair_of (alphabet F.Scalar.FiniteField F.FiniteField F.SymbolField) self.old) self.old.degree }
-        requires other { (b ≡ F.FiniteField.field.zero) ⊎ Reaches (alphabet F.Scalar.FiniteField F.FiniteField F.SymbolField) k (pair_of (alphabet F.Scalar.FiniteField F.FiniteField F.SymbolField) other.now) self.old.degree }
-        ensures mixes { Mixes (alphabet F.Scalar.FiniteField F.FiniteField F.SymbolField) a (pair_of (alphabet F.Scalar.FiniteField F.FiniteField F.SymbolField) self.old) b (pair_of (alphabet F.Scalar.FiniteField F.FiniteField F.SymbolField) other.now) (pair_of (alphabet F.Scalar.FiniteField F.FiniteField F.SymbolField) self.new) }
+    fn mix(&mut self, a: F, other: &Pair<F>, b: F)
+        requires { (b ≡ F.FiniteField.field.zero) ⊎ (other.now.degree ≤ self.old.degree) }
+        ensures mixes { Mixes (alphabet F.Scalar.FiniteField F.FiniteField F.SymbolField) a self.old.pair b other.now.pair self.new.pair }
         ensures degree { self.new.degree ≡ self.old.degree }
     {
-        let x_places = self.degree + 1;
-        let y_places = self.y_places(k);
-        mix(&mut self.x, a, &other.x, b, x_places);
-        mix(&mut self.y, a, &other.y, b, y_places);
+        self.x.mix(a, &other.x, b);
+        self.y.mix(a, &other.y, b);
     }
 
     // raise(Q) − a Q in place of this pair Q, where a v is v raised.
-    fn raise<F: SymbolField>(&mut self, k: usize, v: F)
-        requires small { (0 < k) × (self.old.degree + 1 < room) }
+    fn raise(&mut self, v: F)
+        requires room { self.old.degree + 1 < room }
         requires some { v ≢ F.FiniteField.field.zero }
-        requires own { Reaches (alphabet F.Scalar.FiniteField F.FiniteField F.SymbolField) k (pair_of (alphabet F.Scalar.FiniteField F.FiniteField F.SymbolField) self.old) self.old.degree }
-        ensures raises { Raises (alphabet F.Scalar.FiniteField F.FiniteField F.SymbolField) v (pair_of (alphabet F.Scalar.FiniteField F.FiniteField F.SymbolField) self.old) (pair_of (alphabet F.Scalar.FiniteField F.FiniteField F.SymbolField) self.new) }
+        ensures raises { Raises (alphabet F.Scalar.FiniteField F.FiniteField F.SymbolField) v self.old.pair self.new.pair }
         ensures degree { self.new.degree ≡ self.old.degree + 1 }
     {
-        let Some(inverse) = v.inverse() else {
-            unreachable()
-        };
+        let inverse = v.inverse().unwrap();
         let less = v.raise().times(inverse).negative();
-        let x_places = self.degree + 2;
-        let y_places = self.y_places(k) + 1;
-        shift(&mut self.x, less, x_places);
-        shift(&mut self.y, less, y_places);
+        self.x.shift(less);
+        self.y.shift(less);
         self.degree += 1;
     }
 }
 
-// x alone, and y alone.
-fn start<F: SymbolField>(k: usize) -> State
-    requires { 0 < k }
-    ensures { IsStart (alphabet F.Scalar.FiniteField F.FiniteField F.SymbolField) k (state_of (alphabet F.Scalar.FiniteField F.FiniteField F.SymbolField) result) }
-{
-    let none = [0; PLACES];
-    let mut one = none;
-    one[0] = AsCodes::store(F::one());
-    State {
-        first: Pair {
-            x: one,
-            y: none,
-            degree: 0,
-        },
-        second: Pair {
-            x: none,
-            y: one,
-            degree: k - 1,
-        },
-    }
+// The first pair leads in x, the second in y.
+#[derive(Drop)]
+struct State<F: SymbolField> {
+    first: Pair<F>,
+    second: Pair<F>,
 }
 
-impl State {
-    // Whether the first pair is raised: of the pairs that do not vanish it has the smaller degree.
-    fn first_moves<F: SymbolField>(&self, first: F, second: F) -> bool
-        ensures { FirstMoves F.FiniteField.field first second self.now.first.degree self.now.second.degree result }
+impl<F: SymbolField> Model for State<F> {
+    ghost use Rattle.linearized.specs.Interpolation.{State as StateOf};
+
+    ghost Value = { StateOf F };
+
+    ghost view = { λ s. record { first = s.first.pair; second = s.second.pair; first_degree = s.first.degree; second_degree = s.second.degree } };
+}
+
+impl<F: SymbolField> State<F> {
+    // x alone, and y alone.
+    fn start(k: usize) -> Self
+        requires { 0 < k }
+        ensures { IsStart (alphabet F.Scalar.FiniteField F.FiniteField F.SymbolField) k result }
     {
-        if is_zero(first) {
-            return false;
+        State {
+            first: Pair {
+                x: Polynomial::variable(),
+                y: Polynomial::zero(),
+                degree: 0,
+            },
+            second: Pair {
+                x: Polynomial::zero(),
+                y: Polynomial::variable(),
+                degree: k - 1,
+            },
         }
-        is_zero(second) || self.first.degree <= self.second.degree
+    }
+
+    // Whether the first pair is raised: of the pairs that do not vanish it has the smaller degree.
+    fn first_moves(&self, first: F, second: F) -> bool
+        ensures { FirstMoves F.FiniteField.field first second self.now.first_degree self.now.second_degree result }
+    {
+        !is_zero(first) && (is_zero(second) || self.first.degree <= self.second.degree)
     }
 
     // One packet more, on which both pairs vanish after.
-    fn next<F: SymbolField>(&mut self, k: usize, packet: Packet<F>)
-        requires small { (0 < k) × ((self.old.first.degree + 1 < room) × (self.old.second.degree + 1 < room)) }
-        requires first { Reaches (alphabet F.Scalar.FiniteField F.FiniteField F.SymbolField) k (pair_of (alphabet F.Scalar.FiniteField F.FiniteField F.SymbolField) self.old.first) self.old.first.degree }
-        requires second { Reaches (alphabet F.Scalar.FiniteField F.FiniteField F.SymbolField) k (pair_of (alphabet F.Scalar.FiniteField F.FiniteField F.SymbolField) self.old.second) self.old.second.degree }
-        ensures { Next (alphabet F.Scalar.FiniteField F.FiniteField F.SymbolField) (state_of (alphabet F.Scalar.FiniteField F.FiniteField F.SymbolField) self.old) packet (state_of (alphabet F.Scalar.FiniteField F.FiniteField F.SymbolField) self.new) }
+    fn next(&mut self, packet: Packet<F>)
+        requires { (self.old.first_degree + 1 < room) × (self.old.second_degree + 1 < room) }
+        ensures { Next (alphabet F.Scalar.FiniteField F.FiniteField F.SymbolField) self.old packet self.new }
     {
-        let first = self.first.value(k, packet);
-        let second = self.second.value(k, packet);
+        let first = self.first.value(packet);
+        let second = self.second.value(packet);
         let less = first.negative();
         if self.first_moves(first, second) {
-            self.second.mix(k, less, &self.first, second);
-            self.first.raise(k, first);
+            self.second.mix(less, &self.first, second);
+            self.first.raise(first);
         } else if !is_zero(second) {
-            self.first.mix(k, second, &self.second, less);
-            self.second.raise(k, second);
+            self.first.mix(second, &self.second, less);
+            self.second.raise(second);
         }
     }
 }
 
 // A pair that vanishes on the packets, of least weighted degree.
-pub(crate) fn interpolate<F: SymbolField>(k: usize, packets: &[Packet<F>]) -> Pair
+pub(crate) fn interpolate<F: SymbolField>(k: usize, packets: &[Packet<F>]) -> Pair<F>
     requires { (0 < k) × ((k ≤ 16) × (length packets.now ≤ 32)) }
-    ensures { Interpolates (alphabet F.Scalar.FiniteField F.FiniteField F.SymbolField) k (τ (length packets.now) k) (Span (packet_rows (alphabet F.Scalar.FiniteField F.FiniteField F.SymbolField)) packets.now) (polynomial (alphabet F.Scalar.FiniteField F.FiniteField F.SymbolField) result.x) (polynomial (alphabet F.Scalar.FiniteField F.FiniteField F.SymbolField) result.y) }
+    ensures { Interpolates (alphabet F.Scalar.FiniteField F.FiniteField F.SymbolField) k (τ (length packets.now) k) (Span (packet_rows (alphabet F.Scalar.FiniteField F.FiniteField F.SymbolField)) packets.now) result.pair.x result.pair.y }
 {
-    let mut state = start::<F>(k);
+    let mut state = State::start(k);
     for packet in packets {
-        state.next(k, *packet);
+        state.next(*packet);
     }
-    if state.first.degree <= state.second.degree {
-        state.first
-    } else {
-        state.second
-    }
+    let State { first, second } = state;
+    cmp::min_by_key(first, second, |pair| pair.degree)
 }

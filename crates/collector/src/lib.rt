@@ -7,6 +7,7 @@ mod decoding;
 mod interpolation;
 mod measuring;
 mod packet_row;
+mod polynomial;
 mod row;
 mod scalar;
 pub mod session;

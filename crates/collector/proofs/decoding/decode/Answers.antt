@@ -1,4 +1,4 @@
-use Rattle.std.proofs.Common.{◌≡◌, ℕ, ◌-◌, ◌≤◌, List, ◌++◌, length, take, drop, refl, ap, ◌∙◌, arith, length-take, Fits-lit}
+use Rattle.std.proofs.Common.{◌≡◌, ℕ, ◌≤◌, List, ◌++◌, length, take, drop, refl, ap, ◌∙◌, arith, length-take, Fits-lit}
 use lib.ListN.{length-map}
 use mir.Facts.{Fits-lt}
 use Rattle.field.specs.Alphabet.{Lawful}
@@ -15,10 +15,10 @@ laws g = record { scalar_codes = g.met.F.Scalar.FiniteField.codes; codes = g.met
 
 -- the message that the first codes hold
 abbrev message : (g : given.Over) → ℕ → List ℕ → List g.row.F.Denot
-message g k codes = polynomial (alphabet g.F.Scalar.FiniteField g.F.FiniteField g.F.SymbolField) (take (k - 0) codes)
+message g k codes = polynomial (alphabet g.F.Scalar.FiniteField g.F.FiniteField g.F.SymbolField) (take k codes)
 
 message_long : (g : given.Over) (k : ℕ) (codes : List ℕ) → k ≤ length codes → length (message g k codes) ≡ k
-message_long g k codes l = omega (arith, length-map (take (k - 0) codes) (held_code g.F.FiniteField), length-take (k - 0) codes)
+message_long g k codes l = omega (arith, length-map (take k codes) (held_code g.F.FiniteField), length-take k codes)
 
 pub returns-in_err-codes : goal.returns-in_err-codes
 returns-in_err-codes g c =
@@ -42,14 +42,13 @@ returns-then-r-foreign g c =
     let (room, candidate) = c.in_ok-codes.ensures in
     let long = message_long g k codes (omega (arith, room, (laws g).extension.coordinate_limit)) in (
       measured_none (laws g) k c.args.l c.requires.allowed.1.1 c.args.packets.now c.requires.headers c.requires.dimension (message g k codes) c.measure-foreign.result c.measure-foreign.ensures
-          (polynomial A codes) candidate long (λ n l. front_at A codes (k - 0) n (omega arith)) c.if-r-foreign.true,
+          (polynomial A codes) candidate long (λ n l. front_at A codes k n (omega arith)) c.if-r-foreign.true,
       refl,
     )
 
-pub counts-requires : goal.counts-requires
-counts-requires g c =
-    let (some, within) = measured_shared (laws g) c.args.k c.args.l c.requires.allowed.1.1 c.args.packets.now c.requires.headers c.requires.dimension (message g c.args.k c.in_ok-codes.codes) c.measure-foreign.result c.measure-foreign.ensures in
-    (within, (omega arith, omega (arith, (laws g).extension.coordinate_limit)))
+pub overflow_sub-lost : goal.overflow_sub-lost
+overflow_sub-lost g c =
+    (measured_shared (laws g) c.args.k c.args.l c.requires.allowed.1.1 c.args.packets.now c.requires.headers c.requires.dimension (message g c.args.k c.in_ok-codes.codes) c.measure-foreign.result c.measure-foreign.ensures).1
 
 pub returns : goal.returns
 returns g c =
@@ -57,6 +56,6 @@ returns g c =
     let codes = c.in_ok-codes.codes in
     let (room, candidate) = c.in_ok-codes.ensures in
     let long = message_long g k codes (omega (arith, room, (laws g).extension.coordinate_limit)) in
-    let taken : length (take (k - 0) codes) ≡ k = omega (arith, room, length-take (k - 0) codes, (laws g).extension.coordinate_limit) in
+    let taken : length (take k codes) ≡ k = omega (arith, room, length-take k codes, (laws g).extension.coordinate_limit) in
     measured_found (laws g) k c.args.l c.requires.allowed.1.1 c.args.packets.now c.requires.headers c.requires.dimension (message g k codes) c.measure-foreign.result c.measure-foreign.ensures
-    long c.if-r-foreign.false c.args.output.now _ _ (c.write.ensures ∙ ap (λ n. message g k codes ++ drop n c.args.output.now) taken) c.counts.ensures
+    long c.if-r-foreign.false c.args.output.now _ (c.write.ensures ∙ ap (λ n. message g k codes ++ drop n c.args.output.now) taken)

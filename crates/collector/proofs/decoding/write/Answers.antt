@@ -4,13 +4,10 @@ use Rattle.std.proofs.lemmas.List.FromFn.{fill_by_all}
 use Rattle.field.proofs.Members.{alphabet}
 use Rattle.linearized.specs.Polynomials.{at}
 use Rattle.subspace_code.specs.Holding.{held_code}
-use Rattle.collector.specs.Interpolation.{polynomial, written}
+use Rattle.collector.specs.Interpolation.{polynomial}
 use Rattle.subspace_code.proofs.Sums.{front_more}
-use Rattle.collector.proofs.HeldPolynomials.{polynomial_at}
+use Rattle.collector.proofs.HeldPolynomials.{written, polynomial_at}
 use Rattle.collector.proofs.decoding.write.Goals as goal
-
-pub loop-i-init : goal.loop-i-init
-loop-i-init g c = refl
 
 pub loop-i-preserved : goal.loop-i-preserved
 loop-i-preserved g c =

@@ -2,7 +2,8 @@
 use Rattle.std.proofs.Common.{◌≡◌}
 use Rattle.field.proofs.Members.{alphabet}
 use Rattle.linearized.specs.Polynomials.{at}
-use Rattle.collector.specs.Interpolation.{polynomial, written}
+use Rattle.collector.specs.Interpolation.{polynomial}
+use Rattle.collector.proofs.HeldPolynomials.{written}
 use Rattle.collector.proofs.decoding.write.Given as goal
 
 abbrev pub invariant-loop-i : goal.invariant-loop-i
