@@ -20,12 +20,12 @@ use Rattle.sending.proofs.Answered.{after, after_more}
 module _ {K S : Type 0} (A : Alphabet K S) (name : FieldName) where
   -- xs are the symbols so far, `left` the codes that are left
   module _ (xs : List S) (left : List (List ℕ)) where
-    pub message_more : (code : List ℕ) (more : List (List ℕ)) (x : S) → left ≡ code ∷ more → symbol A name code ≡ Some x → after (xs ++ x ∷ []) (message_of A name more) ≡ after xs (message_of A name left)
+    pub message_more : (code : List ℕ) (more : List (List ℕ)) (x : S) → left ≡ code ∷ more → ok_or (symbol A name code) LineShape ≡ Ok x → after (xs ++ x ∷ []) (message_of A name more) ≡ after xs (message_of A name left)
     message_more code more x is at =
-        after_more xs x (message_of A name more) ∙ ap (λ o. after xs (onto (ok_or o LineShape) (message_of A name more))) (sym at) ∙ ap (λ codes. after xs (message_of A name codes)) (sym is)
+        after_more xs x (message_of A name more) ∙ ap (λ r. after xs (onto r (message_of A name more))) (sym at) ∙ ap (λ codes. after xs (message_of A name codes)) (sym is)
 
-    pub message_stops : (code : List ℕ) (more : List (List ℕ)) → left ≡ code ∷ more → symbol A name code ≡ None → after xs (message_of A name left) ≡ Err LineShape
-    message_stops code more is at = ap (λ codes. after xs (message_of A name codes)) is ∙ ap (λ o. after xs (onto (ok_or o LineShape) (message_of A name more))) at
+    pub message_stops : (code : List ℕ) (more : List (List ℕ)) (e : Refusal) → left ≡ code ∷ more → ok_or (symbol A name code) LineShape ≡ Err e → after xs (message_of A name left) ≡ Err e
+    message_stops code more e is at = ap (λ codes. after xs (message_of A name codes)) is ∙ ap (λ r. after xs (onto r (message_of A name more))) at
 
     pub message_ends : left ≡ [] → after xs (message_of A name left) ≡ Ok xs
     message_ends is = ap (λ codes. after xs (message_of A name codes)) is ∙ ap Ok (append-nil xs)
