@@ -10,12 +10,14 @@ ghost use Rattle.portal_log.specs.Entries.{log_limit};
 ghost use Rattle.sheet.specs.Sheets.{SheetFits, IsSheet};
 
 mod counting;
+mod log;
 mod numbers;
 mod writing;
 
-use crate::counting::count_lines;
-use crate::numbers::numbers_text;
-use crate::writing::{refused_text, total_line};
+use crate::counting::{Counts, count_lines};
+use crate::log::Log;
+use crate::numbers::{Numbers, numbers_text};
+use crate::writing::refused_text;
 use answer::refusal::Refusal;
 use field::nibble::Nibble;
 use field::octet::Octet;
@@ -23,40 +25,30 @@ use field::word::Word;
 use field::{FiniteField, SymbolField};
 use packet::Packet;
 use portal_log::LIMIT;
-use portal_log::head::Head;
 use portal_log::name::{FieldName, LogField};
 use portal_log::reader::open;
 use std::alloc::{AllocError, Global};
+use std::marker::PhantomData;
 
-// So many copies of a value.
-fn copies<T: Copy + Drop>(heap: Global, x: T, many: usize) -> Result<Vec<T>, AllocError>
-    ensures { IfOk result (λ v. vec_len v ≡ many) }
+// The sheet of a log in the field F.
+fn sheet_in<F: LogField>(heap: Global, log: Log<'_, F>) -> Result<String, AllocError>
+    ensures { IfOk result (λ t. SheetFits (alphabet F.Scalar.FiniteField F.FiniteField F.SymbolField) F.LogField.name (fits log.entry.head.k log.entry.head.l F.SymbolField.m) log.entry.head log.entry.bytes.now (string_bytes t)) }
 {
-    let mut all = Vec::new(heap);
-    for _ in 0..many {
-        all.push(x)?;
-    }
-    Ok(all)
-}
-
-// The sheet of a log in the field F, with its first line's head.
-fn sheet_in<F: LogField>(heap: Global, head: Head, log: &[u8]) -> Result<String, AllocError>
-    requires short { length log.now ≤ log_limit }
-    requires first { first_head (lines log.now) ≡ Some head }
-    requires field { head.name ≡ F.LogField.name }
-    ensures { IfOk result (λ t. SheetFits (alphabet F.Scalar.FiniteField F.FiniteField F.SymbolField) F.LogField.name (fits head.k head.l F.SymbolField.m) head log.now (string_bytes t)) }
-{
+    let head = log.head;
     let m = F::m();
     if !head.fits(m) {
         return refused_text(heap, Refusal::Parameters);
     }
-    let mut rows = copies(heap, Packet::<F>::zero(), 8 * (head.l + m))?;
-    let mut message = copies(heap, F::zero(), head.k)?;
-    let mut numbers = numbers_text(heap, head, log, &mut rows, &mut message)?;
-    let (erased, unreadable) = count_lines::<F>(log);
-    let total = total_line(heap, numbers.taken, numbers.passed, erased, unreadable)?;
-    numbers.text.push_str(total.as_str())?;
-    Ok(numbers.text)
+    let mut rows = vec![in heap; Packet::<F>::zero(); 8 * (head.l + m)]?;
+    let mut message = vec![in heap; F::zero(); head.k]?;
+    let Numbers {
+        mut text,
+        taken,
+        passed,
+    } = numbers_text(heap, &log, &mut rows, &mut message)?;
+    let Counts { erased, unreadable } = count_lines(&log);
+    write!(text, "T,{taken},{passed},{erased},{unreadable}\n")?;
+    Ok(text)
 }
 
 // The hand-over sheet of a log: a line for each number with packets taken, and one with totals; or only a refusal.
@@ -66,13 +58,33 @@ pub fn sheet(heap: Global, log: &[u8]) -> Result<String, AllocError>
     if log.len() > LIMIT {
         return refused_text(heap, Refusal::LogLong);
     }
-    let (head, _) = open(log);
-    let Some(head) = head else {
+    let (Some(head), _) = open(log) else {
         return refused_text(heap, Refusal::LineShape);
     };
     match head.name {
-        FieldName::Octet => sheet_in::<Octet>(heap, head, log),
-        FieldName::Word => sheet_in::<Word>(heap, head, log),
-        FieldName::Nibble => sheet_in::<Nibble>(heap, head, log),
+        FieldName::Octet => sheet_in::<Octet>(
+            heap,
+            Log {
+                bytes: log,
+                head,
+                field: PhantomData,
+            },
+        ),
+        FieldName::Word => sheet_in::<Word>(
+            heap,
+            Log {
+                bytes: log,
+                head,
+                field: PhantomData,
+            },
+        ),
+        FieldName::Nibble => sheet_in::<Nibble>(
+            heap,
+            Log {
+                bytes: log,
+                head,
+                field: PhantomData,
+            },
+        ),
     }
 }

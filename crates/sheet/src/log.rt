@@ -1,0 +1,20 @@
+// A log in one field, whose first line could be read.
+ghost use Rattle.std.specs.Prelude.{◌≡◌, ◌≤◌, length, Some};
+ghost use Rattle.portal_log.specs.Text.{lines};
+ghost use Rattle.portal_log.specs.Heads.{first_head};
+ghost use Rattle.portal_log.specs.Entries.{log_limit};
+
+use portal_log::head::Head;
+use portal_log::name::LogField;
+use std::marker::PhantomData;
+
+// The bytes of a log within the limit, and its first line, which names the field F.
+#[derive(Drop)]
+pub(crate) struct Log<'a, F: LogField> {
+    pub(crate) bytes: &'a [u8],
+    pub(crate) head: Head,
+    pub(crate) field: PhantomData<F>,
+    ghost short: { length bytes.now ≤ log_limit },
+    ghost first: { first_head (lines bytes.now) ≡ Some head },
+    ghost named: { head.name ≡ F.LogField.name },
+}
