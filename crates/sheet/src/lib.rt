@@ -1,7 +1,7 @@
 // The hand-over sheet of a log: which blocks came through, and what was lost on the way.
 #![tactic(auto)]
 
-ghost use Rattle.std.specs.Prelude.{◌≡◌, ◌≤◌, length, IfOk, Some, vec_len, string_bytes};
+ghost use Rattle.std.specs.Prelude.{◌≡◌, ◌≤◌, length, IfOk, Some, string_bytes};
 ghost use Rattle.field.specs.Alphabet.{alphabet};
 ghost use Rattle.subspace_code.specs.Encoding.{fits};
 ghost use Rattle.portal_log.specs.Text.{lines};
@@ -23,29 +23,33 @@ use field::nibble::Nibble;
 use field::octet::Octet;
 use field::word::Word;
 use field::{FiniteField, SymbolField};
-use packet::Packet;
 use portal_log::LIMIT;
+use portal_log::head::Head;
 use portal_log::name::{FieldName, LogField};
 use portal_log::reader::open;
 use std::alloc::{AllocError, Global};
 use std::marker::PhantomData;
 
-// The sheet of a log in the field F.
-fn sheet_in<F: LogField>(heap: Global, log: Log<'_, F>) -> Result<String, AllocError>
-    ensures { IfOk result (λ t. SheetFits (alphabet F.Scalar.FiniteField F.FiniteField F.SymbolField) F.LogField.name (fits log.entry.head.k log.entry.head.l F.SymbolField.m) log.entry.head log.entry.bytes.now (string_bytes t)) }
+// The sheet of a log in the field F, with its first line's head.
+fn sheet_in<F: LogField>(heap: Global, head: Head, log: &[u8]) -> Result<String, AllocError>
+    requires short { length log.now ≤ log_limit }
+    requires first { first_head (lines log.now) ≡ Some head }
+    requires field { head.name ≡ F.LogField.name }
+    ensures { IfOk result (λ t. SheetFits (alphabet F.Scalar.FiniteField F.FiniteField F.SymbolField) F.LogField.name (fits head.k head.l F.SymbolField.m) head log.now (string_bytes t)) }
 {
-    let head = log.head;
-    let m = F::m();
-    if !head.fits(m) {
+    if !head.fits(F::m()) {
         return refused_text(heap, Refusal::Parameters);
     }
-    let mut rows = vec![in heap; Packet::<F>::zero(); 8 * (head.l + m)]?;
-    let mut message = vec![in heap; F::zero(); head.k]?;
+    let log = Log::<F> {
+        bytes: log,
+        head,
+        field: PhantomData,
+    };
     let Numbers {
         mut text,
         taken,
         passed,
-    } = numbers_text(heap, &log, &mut rows, &mut message)?;
+    } = numbers_text(heap, &log)?;
     let Counts { erased, unreadable } = count_lines(&log);
     write!(text, "T,{taken},{passed},{erased},{unreadable}\n")?;
     Ok(text)
@@ -62,29 +66,8 @@ pub fn sheet(heap: Global, log: &[u8]) -> Result<String, AllocError>
         return refused_text(heap, Refusal::LineShape);
     };
     match head.name {
-        FieldName::Octet => sheet_in::<Octet>(
-            heap,
-            Log {
-                bytes: log,
-                head,
-                field: PhantomData,
-            },
-        ),
-        FieldName::Word => sheet_in::<Word>(
-            heap,
-            Log {
-                bytes: log,
-                head,
-                field: PhantomData,
-            },
-        ),
-        FieldName::Nibble => sheet_in::<Nibble>(
-            heap,
-            Log {
-                bytes: log,
-                head,
-                field: PhantomData,
-            },
-        ),
+        FieldName::Octet => sheet_in::<Octet>(heap, head, log),
+        FieldName::Word => sheet_in::<Word>(heap, head, log),
+        FieldName::Nibble => sheet_in::<Nibble>(heap, head, log),
     }
 }

@@ -74,15 +74,14 @@ fn collect_number<F: LogField>(
 pub(crate) fn numbers_text<F: LogField>(
     heap: Global,
     log: &Log<'_, F>,
-    rows: &mut [Packet<F>],
-    message: &mut [F],
 ) -> Result<Numbers, AllocError>
-    requires fits { fits log.now.head.k log.now.head.l F.SymbolField.m ≡ true }
-    requires room { 8 * (log.now.head.l + F.SymbolField.m) ≤ length rows.old }
-    requires places { length message.old ≡ log.now.head.k }
     ensures { IfOk result (λ n. NumbersText (alphabet F.Scalar.FiniteField F.FiniteField F.SymbolField) F.LogField.name log.now.head.k log.now.head.l log.now.bytes.now (string_bytes n.text) n.taken n.passed) }
 {
     let Head { k, l, .. } = log.head;
+    let mut rows = vec![in heap; Packet::zero(); 8 * (l + F::m())]?;
+    let mut message = vec![in heap; F::zero(); k]?;
+    let rows = &mut rows[..];
+    let message = &mut message[..];
     let mut session = Session::start(k, l, rows).unwrap();
     let mut text = String::new(heap);
     let mut taken = 0;

@@ -1,4 +1,4 @@
-use Rattle.std.proofs.Common.{◌≡◌, ◌+◌, [], length, string_bytes, sym, ◌∙◌, subst, arith}
+use Rattle.std.proofs.Common.{◌*◌, ◌≤◌, ◌≡◌, ◌+◌, [], length, string_bytes, sym, ◌∙◌, subst, arith}
 use Rattle.field.specs.Alphabet.{Alphabet}
 use Rattle.field.proofs.Members.{alphabet}
 use Rattle.collector.specs.Session.{Started}
@@ -17,9 +17,10 @@ pub unwrap-session-requires : goal.unwrap-session-requires
 unfolding A
 unwrap-session-requires g c =
     let h = c.args.log.now.head in
+    let room : 8 * (h.l + g.F.SymbolField.m) ≤ length c.deref_mut.result.now = omega (arith, c.deref_mut.ensures.len, c.in_ok-rows.ensures.len, c.m.ensures) in
     unrefused_is_ok c.start.result (λ e is.
-    start_not_refused (A g) h.k h.l c.args.rows.now e c.requires.fits c.requires.room
-    (subst (λ r. Started (A g) h.k h.l c.args.rows.now r c.start.new.rows) is c.start.ensures.started).0)
+    start_not_refused (A g) h.k h.l c.deref_mut.result.now e c.args.log.now.fits room
+    (subst (λ r. Started (A g) h.k h.l c.deref_mut.result.now r c.start.new.rows) is c.start.ensures.started).0)
 
 pub loop-number-init : goal.loop-number-init
 unfolding A
@@ -48,7 +49,7 @@ loop-number-preserved g c =
     let counted = got.result.counted in
     let h = c.args.log.now.head in
     let o : Outcome g.row.F.Denot = record { drain = got.result.drained; output = c.loop-number.message; written = got.new.message; solve = got.result.solved } in
-    let long : length c.loop-number.message ≡ s.k = c.loop-number.auto.message ∙ c.requires.places ∙ sym (subst (λ r. Started (A g) h.k h.l c.args.rows.now r c.start.new.rows) c.unwrap-session.ensures c.start.ensures.started).1 in
+    let long : length c.loop-number.message ≡ s.k = c.loop-number.auto.message ∙ c.deref_mut-2.ensures.len ∙ c.in_ok-message.ensures.len ∙ sym (subst (λ r. Started (A g) h.k h.l c.deref_mut.result.now r c.start.new.rows) c.unwrap-session.ensures c.start.ensures.started).1 in
     let done = got.ensures.done s.k s.l p.later p.machine p.represents (p.shut_on b (omega arith)) in
     subst (λ t. Progress (A g) name s.k s.l log (b + 1) (record { session = got.new.session; rows = got.new.rows }) t (c.loop-number.taken + counted.kept) (c.loop-number.passed + counted.passed))
     (sym c.in_ok-write_number.ensures)
@@ -60,7 +61,7 @@ returns g c =
     let s = c.unwrap-session.result in
     let name = g.F.LogField.name in
     let log = c.args.log.now in
-    let started = subst (λ r. Started (A g) log.head.k log.head.l c.args.rows.now r c.start.new.rows) c.unwrap-session.ensures c.start.ensures.started in
+    let started = subst (λ r. Started (A g) log.head.k log.head.l c.deref_mut.result.now r c.start.new.rows) c.unwrap-session.ensures c.start.ensures.started in
     let end : c.loop-number.number ≡ 8 = omega (arith, c.loop-number-test.false, c.loop-number.auto.number-end) in
     let text = string_bytes c.loop-number.text in
     subst (λ k. NumbersText (A g) name k log.head.l log.bytes.now text c.loop-number.taken c.loop-number.passed) started.1
