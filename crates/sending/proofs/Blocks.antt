@@ -11,6 +11,7 @@ use Rattle.answer.specs.declared.refusal.Refusal.TheVariants.{MessageLength, Lin
 use Rattle.linearized.specs.Code.{packets}
 use Rattle.subspace_code.specs.Encoding.{fits, encode_refusal, encoded}
 use Rattle.answer.specs.Refusals.{first_cause, answered}
+use Rattle.answer.proofs.Tested.{answered_ok}
 use Rattle.portal_log.specs.declared.name.FieldName.{FieldName}
 use Rattle.portal_log.specs.Symbols.{symbol}
 use Rattle.sending.specs.Outcomes.{onto}
@@ -34,10 +35,6 @@ module _ {K S : Type 0} (A : Alphabet K S) (name : FieldName) where
 encode_cause : (m k ℓ n places : ℕ) → fits k ℓ m ≡ true → places ≡ ℓ → encode_refusal m k ℓ n places ≡ first_cause ((not (eqb n k), MessageLength) ∷ [])
 encode_cause m k ℓ n places h e = cond-false _ _ _ (ap not h) ∙ cond-false _ _ _ (le-ltb places ℓ (omega arith))
 
-not_refused : {X : Type 0} (o : Option Refusal) (a : X) (x : X) → answered o a ≡ Ok x → o ≡ None
-not_refused None a x e = refl
-not_refused (Some refusal) a x e = let z : ◌≡◌ {A = ℕ} 0 1 = cc in absurd (let y : ⊥ = omega arith in y)
-
 -- the text of a block from the packets that the encoder wrote to ℓ places
 pub block_sent : {K S : Type 0} (A : Alphabet K S) (name : FieldName) (k ℓ n : ℕ) (u : List S) (before written : List (Packet S)) (r : Result (Unit {0}) Refusal) →
     fits k ℓ A.m ≡ true → length before ≡ ℓ → r ≡ Ok tt →
@@ -46,7 +43,7 @@ pub block_sent : {K S : Type 0} (A : Alphabet K S) (name : FieldName) (k ℓ n :
     block_text A name k ℓ (n, u) ≡ Ok (flat_map (packet_line A name n) written)
 block_sent A name k ℓ n u before written r fit places ok answer output =
     let refusal = encode_refusal A.m k ℓ (length u) (length before) in
-    let none : refusal ≡ None = not_refused refusal tt tt (sym answer ∙ ok) in
+    let none : refusal ≡ None = answered_ok refusal tt tt (sym answer ∙ ok) in
     let all-written : written ≡ packets A ℓ u =
     output ∙ ap (λ o. encoded A o ℓ u before) none ∙ ap (λ rest. packets A ℓ u ++ rest) (drop_all ℓ before (omega arith)) ∙ append-nil (packets A ℓ u) in
     ap (λ o. answered o (flat_map (packet_line A name n) (packets A ℓ u))) (sym (encode_cause A.m k ℓ (length u) (length before) fit places) ∙ none)

@@ -43,7 +43,7 @@ pub fn packet_lines<F: LogField>(
     for packet in packets {
         let x = Code(packet.x);
         let y = Code(packet.y);
-        write!(text, "P,{number},{x},{y}\n")?;
+        writeln!(text, "P,{number},{x},{y}")?;
     }
     Ok(text)
 }

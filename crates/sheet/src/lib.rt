@@ -51,7 +51,7 @@ fn sheet_in<F: LogField>(heap: Global, head: Head, log: &[u8]) -> Result<String,
         passed,
     } = numbers_text(heap, &log)?;
     let Counts { erased, unreadable } = count_lines(&log);
-    write!(text, "T,{taken},{passed},{erased},{unreadable}\n")?;
+    writeln!(text, "T,{taken},{passed},{erased},{unreadable}")?;
     Ok(text)
 }
 

@@ -37,11 +37,7 @@ fn write_refused(
 ) -> Result<(), AllocError>
     ensures { OnOk result (string_bytes text.new ≡ string_bytes text.old ++ refused_line number taken dimension refusal) }
 {
-    write!(
-        text,
-        "N,{number},{taken},{dimension},{}\n",
-        refusal.number()
-    )
+    writeln!(text, "N,{number},{taken},{dimension},{}", refusal.number())
 }
 
 // The line of a number whose packets gave a block.
@@ -67,7 +63,7 @@ fn write_solved<F: LogField>(
     for symbol in message {
         write!(text, ",{}", Code(*symbol))?;
     }
-    write!(text, "\n")
+    writeln!(text)
 }
 
 // The line of a number: none where no packet was taken.

@@ -17,7 +17,7 @@ loop-packet-preserved g c =
     let i = c.loop-packet.packet-index in
     let item = c.packet-item.result in
     let taken : take (i + 1) packets ≡ take i packets ++ item ∷ [] = take_more packets i item c.loop-packet-test.true ∙ ap (λ p. take i packets ++ p ∷ []) (sym c.packet-item.is) in
-    let wrote : string_bytes c.write.new.self ≡ string_bytes c.loop-packet.text ++ f item = search rules in
+    let wrote : string_bytes c.writeln.new.self ≡ string_bytes c.loop-packet.text ++ f item = search rules in
     wrote ∙ ap (λ t. t ++ f item) c.loop-packet.invariant ∙ flat_map_more f [] (take i packets) item ∙ ap (flat_map f) (sym taken)
 
 pub returns : goal.returns
