@@ -43,33 +43,31 @@ fn relayed<F: SymbolField, D: Feed<Item = Packet<F>> + Drop>(
     take_all(heap, &mut pile)
 }
 
-// The log lines of what the way leaves of a number's packets.
-fn number_lines<F: LogField>(heap: Global, log: &[u8], number: u8) -> Result<String, AllocError> {
+// What the way leaves of a number's packets: nothing of none.
+fn relayed_number<F: LogField>(
+    heap: Global,
+    log: &[u8],
+    number: u8,
+) -> Result<Vec<Packet<F>>, AllocError> {
     match LogFeed::<F>::new(log, number) {
-        Ok(feed) => {
-            if feed.len() == 0 {
-                return Ok(String::new(heap));
-            }
-            let packets = relayed(heap, feed)?;
-            packet_lines(heap, number, &packets)
-        }
-        Err(_) => Ok(String::new(heap)),
+        Ok(feed) if feed.len() > 0 => relayed(heap, feed),
+        _ => Ok(Vec::new(heap)),
     }
 }
 
+// What the way leaves of a log in the field F.
 fn damage_in<F: LogField>(heap: Global, head: Head, log: &[u8]) -> Result<String, AllocError> {
     let mut text = head_line(heap, head)?;
     for number in 0..8 {
-        let lines = number_lines::<F>(heap, log, number)?;
-        text.push_str(lines.as_str())?;
+        let packets = relayed_number::<F>(heap, log, number)?;
+        text.push_str(&packet_lines(heap, number, &packets)?)?;
     }
     Ok(text)
 }
 
 // What the way leaves of a log; nothing where its first line cannot be read.
 fn damage(heap: Global, log: &[u8]) -> Result<String, AllocError> {
-    let (head, _) = open(log);
-    let Some(head) = head else {
+    let (Some(head), _) = open(log) else {
         return Ok(String::new(heap));
     };
     match head.name {

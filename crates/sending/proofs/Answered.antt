@@ -2,7 +2,7 @@
 use Rattle.std.proofs.Common.{◌≡◌, List, [], ◌∷◌, ◌++◌, IsErrAnd, Ok, Err, Result, sym, refl, ap, subst, append_assoc}
 use Rattle.answer.specs.declared.refusal.Refusal.{Refusal}
 use Rattle.sending.specs.declared.fault.Fault.{Fault}
-use Rattle.sending.specs.declared.fault.Fault.TheVariants.{Memory}
+use Rattle.sending.specs.declared.fault.Fault.TheVariants.{Refused, Memory}
 use Rattle.sending.specs.Outcomes.{onto, Answers}
 
 module _ {X E : Type 0} where
@@ -23,3 +23,8 @@ module _ {X E : Type 0} where
 pub answers_memory : {X Y : Type 0} (view : X → Y) (r : Result X Fault) (answer : Result Y Refusal) → IsErrAnd r (λ fault. fault ≡ Memory) → Answers view r answer
 answers_memory view (Ok x) answer h = absurd h
 answers_memory view (Err fault) answer h = subst (λ f. Answers view (Err f) answer) (sym h) tt
+
+-- a call that was refused
+pub answers_refused : {X Y : Type 0} (view : X → Y) (r : Result X Fault) (answer : Result Y Refusal) (e : Refusal) → IsErrAnd r (λ fault. fault ≡ Refused e) → answer ≡ Err e → Answers view r answer
+answers_refused view (Ok x) answer e h is = absurd h
+answers_refused view (Err fault) answer e h is = subst (λ f. Answers view (Err f) answer) (sym h) is

@@ -1,13 +1,20 @@
 -- Sheets, read and printed one line after another.
-use Rattle.std.proofs.Common.{◌≡◌, ℕ, ◌+◌, List, [], ◌∷◌, ◌++◌, Ok, Err, Result, sym, refl, ap, ◌∙◌, append_assoc, append-nil}
+use Rattle.std.proofs.Common.{◌≡◌, ℕ, ◌+◌, ◌≤◌, List, [], ◌∷◌, ◌++◌, length, drop, Ok, Err, Result, sym, refl, ap, ◌∙◌, append_assoc, append-nil, arith, length-drop}
 use Rattle.std.specs.List.{flat_map}
 use Rattle.std.specs.Result.{result_map_both}
 use Rattle.field.specs.Alphabet.{Alphabet}
 use Rattle.answer.specs.declared.refusal.Refusal.{Refusal}
 use Rattle.portal_log.specs.declared.name.FieldName.{FieldName}
+use Rattle.portal_log.specs.declared.text.Lines.{Lines}
 use Rattle.portal_log.specs.Text.{parts}
+use Rattle.portal_log.specs.Views.{left_lines}
+use Rattle.portal_log.proofs.Cuts.{length_lines}
 use Rattle.sending.specs.Outcomes.{and_then, onto}
 use Rattle.sending.specs.Blocks.{refusal_line, printed, block_of, block_text, blocks_text}
+
+-- no more lines are left than bytes
+pub left_few : (s : Lines) → length (left_lines s) ≤ length s.text.now
+left_few s = omega (arith, length_lines (drop s.place s.text.now), length-drop s.place s.text.now)
 
 printed_onto : (first t : List ℕ) (rest : Result (List (List ℕ)) (Refusal × ℕ)) → printed (first ++ t) rest ≡ printed first (onto (Ok t) rest)
 printed_onto first t (Ok texts) = append_assoc first t (flat_map (λ s. s) texts)

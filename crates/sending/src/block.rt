@@ -28,9 +28,7 @@ fn read_message<F: LogField>(heap: Global, codes: Parts<'_>) -> Result<Vec<F>, F
 {
     let mut message = Vec::new(heap);
     for code in codes {
-        let Some(symbol) = read_symbol(code) else {
-            return Err(Fault::Refused(Refusal::LineShape));
-        };
+        let symbol = read_symbol(code).ok_or(Refusal::LineShape)?;
         message.push(symbol)?;
     }
     Ok(message)
@@ -42,13 +40,7 @@ impl<F: LogField> Block<F> {
         ensures { Answers held result (block_of (alphabet F.Scalar.FiniteField F.FiniteField F.SymbolField) F.LogField.name (parts line.now)) }
     {
         let mut parts = Parts::of(line);
-        let number = match parts.next() {
-            Some(part) => one_digit(part),
-            None => None,
-        };
-        let Some(number) = number else {
-            return Err(Fault::Refused(Refusal::LineShape));
-        };
+        let number = parts.next().and_then(one_digit).ok_or(Refusal::LineShape)?;
         let message = read_message(heap, parts)?;
         if number > 7 {
             return Err(Fault::Refused(Refusal::BlockNumber));

@@ -1,9 +1,9 @@
 // Why a call that reads and allocates gives no value.
 ghost use Rattle.std.specs.Prelude.{◌≡◌};
-ghost use Rattle.sending.specs.declared.fault.Fault.TheVariants.{Refused as Of, Memory};
+ghost use Rattle.sending.specs.declared.fault.Fault.TheVariants.{Refused, Memory};
 
 use answer::refusal::Refusal;
-use std::alloc::{AllocError, AllocFailed as NoRoom};
+use std::alloc::{AllocError, AllocFailed};
 
 // A refusal, or memory ran out.
 #[derive(Drop)]
@@ -13,7 +13,7 @@ pub(crate) enum Fault {
 }
 
 impl From<Refusal> for Fault {
-    ghost from_gives = { λ refusal r. r ≡ Of refusal };
+    ghost from_gives = { λ refusal r. r ≡ Refused refusal };
 
     fn from(refusal: Refusal) -> Fault {
         Fault::Refused(refusal)
@@ -28,10 +28,10 @@ impl From<AllocError> for Fault {
     }
 }
 
-impl<T: Drop> From<NoRoom<T>> for Fault {
+impl<T: Drop> From<AllocFailed<T>> for Fault {
     ghost from_gives = { λ _ r. r ≡ Memory };
 
-    fn from(_e: NoRoom<T>) -> Fault {
+    fn from(_e: AllocFailed<T>) -> Fault {
         Fault::from(AllocError)
     }
 }

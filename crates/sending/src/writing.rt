@@ -21,31 +21,14 @@ pub(crate) fn refusal_line(
 ) -> Result<String, AllocError>
     ensures { IfOk result (λ t. string_bytes t ≡ refusal_line refusal line) }
 {
-    let number = refusal.number();
-    format!(in heap; "X,{number},{line}\n")
+    format!(in heap; "X,{},{line}\n", refusal.number())
 }
 
 // The first line of a log.
 pub fn head_line(heap: Global, head: Head) -> Result<String, AllocError>
     ensures { IfOk result (λ t. string_bytes t ≡ head_line head) }
 {
-    let name = head.name.text();
-    let l = head.l;
-    let k = head.k;
-    format!(in heap; "L,{name},{l},{k}\n")
-}
-
-// A packet of a block as a line.
-fn packet_line<F: LogField>(
-    heap: Global,
-    number: u8,
-    packet: Packet<F>,
-) -> Result<String, AllocError>
-    ensures { IfOk result (λ t. string_bytes t ≡ packet_line (alphabet F.Scalar.FiniteField F.FiniteField F.SymbolField) F.LogField.name number packet) }
-{
-    let x = Code(packet.x);
-    let y = Code(packet.y);
-    format!(in heap; "P,{number},{x},{y}\n")
+    format!(in heap; "L,{},{},{}\n", head.name.text(), head.l, head.k)
 }
 
 // The lines of a block's packets.
@@ -58,8 +41,9 @@ pub fn packet_lines<F: LogField>(
 {
     let mut text = String::new(heap);
     for packet in packets {
-        let line = packet_line(heap, number, *packet)?;
-        text.push_str(line.as_str())?;
+        let x = Code(packet.x);
+        let y = Code(packet.y);
+        writeln!(text, "P,{number},{x},{y}")?;
     }
     Ok(text)
 }

@@ -1,5 +1,6 @@
 -- The calls on a number, one after another, by the plain machine.
 use Rattle.std.proofs.Common.{◌≡◌, ℕ, ◌+◌, ◌<◌, ◌≢◌, List, length, Ok, Err, Result, sym, refl, ◌∙◌, subst, inl, inr, arith}
+use Rattle.std.specs.Result.{result_unwrap_or}
 use Rattle.field.specs.Alphabet.{Alphabet, Lawful}
 use Rattle.packet.specs.declared.Packet.{Packet}
 use Rattle.answer.specs.declared.refusal.Refusal.{Refusal}
@@ -9,6 +10,15 @@ use Rattle.collector.specs.Machine.{shut, opened, drained, solved, Machine, Plai
 use Rattle.collector.specs.Runs.{State, Step, Represents}
 use Rattle.collector.proofs.Runs.{step_follows, cell_apart}
 use Rattle.sheet.specs.Outcomes.{taken, passed, rest_of, NumberDone}
+
+-- what is counted of a drain's answer, and of so many packets where it was refused
+pub counted_taken : (many : ℕ) (answer : Result Drained Refusal) → (result_unwrap_or answer (record { kept = 0; passed = many })).kept ≡ taken answer
+counted_taken many (Ok d) = refl
+counted_taken many (Err e) = refl
+
+pub counted_passed : (many : ℕ) (answer : Result Drained Refusal) → (result_unwrap_or answer (record { kept = 0; passed = many })).passed ≡ passed many answer
+counted_passed many (Ok d) = refl
+counted_passed many (Err e) = refl
 
 -- the packets of a feed are kept or passed over
 module _ {K S : Type 0} (A : Alphabet K S) where

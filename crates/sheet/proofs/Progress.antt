@@ -1,6 +1,7 @@
 -- The numbers of a log done one after another: the plain machine's run, the lines and the totals grow together.
 use Rattle.std.proofs.Common.{◌≡◌, ℕ, ◌+◌, ◌*◌, ◌≤◌, List, [], ◌∷◌, ◌++◌, length, sym, refl, ap, ◌∙◌, subst, append_assoc, append-nil, arith, length-append}
 use Rattle.linear.specs.Span.{Each}
+use Rattle.linear.proofs.Each.{each_push}
 use Rattle.field.specs.Alphabet.{Alphabet}
 use Rattle.packet.specs.declared.Packet.{Packet}
 use Rattle.feed.specs.Feeds.{feed_limit}
@@ -11,10 +12,6 @@ use Rattle.portal_log.specs.declared.name.FieldName.{FieldName}
 use Rattle.log_feed.specs.Numbered.{log_packets}
 use Rattle.sheet.specs.Outcomes.{Outcome, taken, passed, number_calls, calls_from, total_taken, total_passed, Standing, NumberDone}
 use Rattle.sheet.specs.Sheets.{number_line, lines_from, NumbersText}
-
-each_more : {X : Type 0} (P : X → Type 0) (xs : List X) (x : X) → Each P xs → P x → Each P (xs ++ x ∷ [])
-each_more P [] x all p = (p, tt)
-each_more P (y ∷ xs) x (q, all) p = (q, each_more P xs x all p)
 
 module _ {K S : Type 0} (A : Alphabet K S) (k ℓ : ℕ) where
   -- one run after another
@@ -94,7 +91,7 @@ module _ {K S : Type 0} (A : Alphabet K S) (name : FieldName) where
         record {
           outcomes = os ++ o ∷ [];
           many = omega (arith, p.many, length-append os (o ∷ []));
-          places = each_more (λ o. length o.output ≡ k) os o p.places long;
+          places = each_push (λ o. length o.output ≡ k) os o p.places long;
           later = p.later;
           machine = done.next;
           runs = subst (λ (cs : List (Call S)). PlainRun A k ℓ (λ _. shut) cs done.next) (sym (calls_more feeds 0 b os o at))

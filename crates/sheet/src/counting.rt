@@ -1,21 +1,27 @@
 // Counts of a log's lines.
-ghost use Rattle.std.specs.Prelude.{◌≡◌, ◌≤◌, length};
+ghost use Rattle.std.specs.Prelude.{◌≡◌};
 ghost use Rattle.field.specs.Alphabet.{alphabet};
-ghost use Rattle.portal_log.specs.Entries.{log_limit, log_entries};
+ghost use Rattle.portal_log.specs.Entries.{log_entries};
 ghost use Rattle.sheet.specs.Sheets.{erased, unreadable};
 
+use crate::log::Log;
 use field::{FiniteField, SymbolField};
 use portal_log::line::Line;
 use portal_log::name::LogField;
 use portal_log::reader::{Reader, open};
 
 // How many erased slots a log has, and how many lines that cannot be read.
-pub(crate) fn count_lines<F: LogField>(log: &[u8]) -> (usize, usize)
-    requires { length log.now ≤ log_limit }
-    ensures erased { result.0 ≡ erased (log_entries (alphabet F.Scalar.FiniteField F.FiniteField F.SymbolField) F.LogField.name log.now) }
-    ensures unreadable { result.1 ≡ unreadable (log_entries (alphabet F.Scalar.FiniteField F.FiniteField F.SymbolField) F.LogField.name log.now) }
+#[derive(Clone, Copy)]
+pub(crate) struct Counts {
+    pub(crate) erased: usize,
+    pub(crate) unreadable: usize,
+}
+
+pub(crate) fn count_lines<F: LogField>(log: &Log<'_, F>) -> Counts
+    ensures erased { result.erased ≡ erased (log_entries (alphabet F.Scalar.FiniteField F.FiniteField F.SymbolField) F.LogField.name log.now.bytes.now) }
+    ensures unreadable { result.unreadable ≡ unreadable (log_entries (alphabet F.Scalar.FiniteField F.FiniteField F.SymbolField) F.LogField.name log.now.bytes.now) }
 {
-    let (_, lines) = open(log);
+    let (_, lines) = open(log.bytes);
     let reader: Reader<'_, F> = Reader::of(lines);
     let mut erased = 0;
     let mut unreadable = 0;
@@ -26,5 +32,5 @@ pub(crate) fn count_lines<F: LogField>(log: &[u8]) -> (usize, usize)
             Line::Unreadable(_) => unreadable += 1,
         }
     }
-    (erased, unreadable)
+    Counts { erased, unreadable }
 }

@@ -1,7 +1,7 @@
 // The hand-over sheet of a log: which blocks came through, and what was lost on the way.
 #![tactic(auto)]
 
-ghost use Rattle.std.specs.Prelude.{◌≡◌, ◌≤◌, length, IfOk, Some, vec_len, string_bytes};
+ghost use Rattle.std.specs.Prelude.{◌≡◌, ◌≤◌, length, IfOk, Some, string_bytes};
 ghost use Rattle.field.specs.Alphabet.{alphabet};
 ghost use Rattle.subspace_code.specs.Encoding.{fits};
 ghost use Rattle.portal_log.specs.Text.{lines};
@@ -10,34 +10,25 @@ ghost use Rattle.portal_log.specs.Entries.{log_limit};
 ghost use Rattle.sheet.specs.Sheets.{SheetFits, IsSheet};
 
 mod counting;
+mod log;
 mod numbers;
 mod writing;
 
-use crate::counting::count_lines;
-use crate::numbers::numbers_text;
-use crate::writing::{refused_text, total_line};
+use crate::counting::{Counts, count_lines};
+use crate::log::Log;
+use crate::numbers::{Numbers, numbers_text};
+use crate::writing::refused_text;
 use answer::refusal::Refusal;
 use field::nibble::Nibble;
 use field::octet::Octet;
 use field::word::Word;
 use field::{FiniteField, SymbolField};
-use packet::Packet;
 use portal_log::LIMIT;
 use portal_log::head::Head;
 use portal_log::name::{FieldName, LogField};
 use portal_log::reader::open;
 use std::alloc::{AllocError, Global};
-
-// So many copies of a value.
-fn copies<T: Copy + Drop>(heap: Global, x: T, many: usize) -> Result<Vec<T>, AllocError>
-    ensures { IfOk result (λ v. vec_len v ≡ many) }
-{
-    let mut all = Vec::new(heap);
-    for _ in 0..many {
-        all.push(x)?;
-    }
-    Ok(all)
-}
+use std::marker::PhantomData;
 
 // The sheet of a log in the field F, with its first line's head.
 fn sheet_in<F: LogField>(heap: Global, head: Head, log: &[u8]) -> Result<String, AllocError>
@@ -46,17 +37,22 @@ fn sheet_in<F: LogField>(heap: Global, head: Head, log: &[u8]) -> Result<String,
     requires field { head.name ≡ F.LogField.name }
     ensures { IfOk result (λ t. SheetFits (alphabet F.Scalar.FiniteField F.FiniteField F.SymbolField) F.LogField.name (fits head.k head.l F.SymbolField.m) head log.now (string_bytes t)) }
 {
-    let m = F::m();
-    if !head.fits(m) {
+    if !head.fits(F::m()) {
         return refused_text(heap, Refusal::Parameters);
     }
-    let mut rows = copies(heap, Packet::<F>::zero(), 8 * (head.l + m))?;
-    let mut message = copies(heap, F::zero(), head.k)?;
-    let mut numbers = numbers_text(heap, head, log, &mut rows, &mut message)?;
-    let (erased, unreadable) = count_lines::<F>(log);
-    let total = total_line(heap, numbers.taken, numbers.passed, erased, unreadable)?;
-    numbers.text.push_str(total.as_str())?;
-    Ok(numbers.text)
+    let log = Log::<F> {
+        bytes: log,
+        head,
+        field: PhantomData,
+    };
+    let Numbers {
+        mut text,
+        taken,
+        passed,
+    } = numbers_text(heap, &log)?;
+    let Counts { erased, unreadable } = count_lines(&log);
+    writeln!(text, "T,{taken},{passed},{erased},{unreadable}")?;
+    Ok(text)
 }
 
 // The hand-over sheet of a log: a line for each number with packets taken, and one with totals; or only a refusal.
@@ -66,8 +62,7 @@ pub fn sheet(heap: Global, log: &[u8]) -> Result<String, AllocError>
     if log.len() > LIMIT {
         return refused_text(heap, Refusal::LogLong);
     }
-    let (head, _) = open(log);
-    let Some(head) = head else {
+    let (Some(head), _) = open(log) else {
         return refused_text(heap, Refusal::LineShape);
     };
     match head.name {
