@@ -1,9 +1,9 @@
 -- Lines after the first, by their four parts.
 use Rattle.std.proofs.Common.{◌≡◌, ℕ, ◌+◌, ◌<◌, eqb, List, [], ◌∷◌, ◌++◌, length, Some, None, codes, Option, sym, refl, ap, ◌∙◌, subst, append_assoc, arith, length-append}
 use Rattle.std.specs.Str.{bytes_eq}
-use Rattle.std.proofs.lemmas.List.{append_cancel_right, nil_from_length}
-use Rattle.std.proofs.lemmas.Bool.{cond-false, cond_both, eqb-true}
-use Rattle.std.proofs.lemmas.Slice.Eq.{text_from_reads, bytes_eq-Decides}
+use Rattle.std.proofs.lemmas.List.{append_cancel_right}
+use Rattle.std.proofs.lemmas.Bool.{cond_both, eqb-true}
+use Rattle.std.proofs.lemmas.Slice.Eq.{bytes_eq-Decides}
 use Rattle.field.specs.Alphabet.{Alphabet}
 use Rattle.packet.specs.declared.Packet.{Packet}
 use Rattle.portal_log.specs.declared.name.FieldName.{FieldName}
@@ -11,7 +11,6 @@ use Rattle.portal_log.specs.Text.{lf, comma, onto_first, parts, four, line}
 use Rattle.portal_log.specs.Places.{Placed, Stands}
 use Rattle.portal_log.specs.Entries.{packet_at, erased_at, unreadable_at, EntryStands, packet_of, other_entry, entry_parts, entry}
 use Rattle.portal_log.proofs.Places.{stands_front, stands_after}
-use Rattle.portal_log.proofs.Literals.{Spells, same_not, same_not_spelled, spells_own}
 
 -- a part before others, and a byte before the first part
 line_skip : (ps : List (List ℕ)) → 0 < length ps → line ([] ∷ ps) ≡ comma ∷ line ps
@@ -47,10 +46,6 @@ four_are (a ∷ b ∷ c ∷ []) p e = let z : ◌≡◌ {A = ℕ} 0 1 = cc in ab
 four_are (a ∷ b ∷ c ∷ d ∷ []) p e = cc
 four_are (a ∷ b ∷ c ∷ d ∷ x ∷ ps) p e = let z : ◌≡◌ {A = ℕ} 0 1 = cc in absurd (let y : ⊥ = omega arith in y)
 
--- the parts of `E,,,`
-abbrev pub Erases : List ℕ × List ℕ × List ℕ × List ℕ → Type 0
-Erases p = Spells p.0 (codes "E") × (length p.1 ≡ 0) × (length p.2 ≡ 0) × (length p.3 ≡ 0)
-
 -- p are the four parts of a line
 module _ (text : List ℕ) (p : List ℕ × List ℕ × List ℕ × List ℕ) (is : Some p ≡ four (parts text)) where
   are : parts text ≡ p.0 ∷ p.1 ∷ p.2 ∷ p.3 ∷ []
@@ -60,39 +55,6 @@ module _ (text : List ℕ) (p : List ℕ × List ℕ × List ℕ × List ℕ) (i
   parts_long =
       let whole : length (line (p.0 ∷ p.1 ∷ p.2 ∷ p.3 ∷ [])) ≡ length (text ++ lf ∷ []) = ap (λ ps. length (line ps)) (sym are) ∙ ap length (line_parts text) in
       omega (arith, simp length-append at whole)
-
-  text_erased : Erases p → text ≡ codes "E,,,"
-  text_erased h =
-      let kind = text_from_reads p.0 (codes "E") h.0.0 h.0.1 in
-      let number = nil_from_length p.1 h.1 in
-      let header = nil_from_length p.2 h.2 in
-      let payload = nil_from_length p.3 h.3 in
-      let e : parts text ≡ codes "E" ∷ [] ∷ [] ∷ [] ∷ [] = cc (are, kind, number, header, payload) in
-      append_cancel_right text (codes "E,,,") (lf ∷ []) (sym (line_parts text) ∙ ap line e)
-
-  parts_erased : text ≡ codes "E,,," → Erases p
-  parts_erased e =
-      let they : p.0 ∷ p.1 ∷ p.2 ∷ p.3 ∷ [] ≡ codes "E" ∷ [] ∷ [] ∷ [] ∷ [] = sym are ∙ ap parts e in
-      let kind : p.0 ≡ codes "E" = cc in
-      let number : p.1 ≡ [] = cc in
-      let header : p.2 ≡ [] = cc in
-      let payload : p.3 ≡ [] = cc in
-      (subst (λ (t : List ℕ). Spells t (codes "E")) (sym kind) (spells_own (codes "E")), ap length number, ap length header, ap length payload)
-
-  module _ {K S : Type 0} (A : Alphabet K S) (name : FieldName) (place : ℕ) where
-    pub entry_packet : Spells p.0 (codes "P") → entry_parts A name (record { place = place; text = text }) (codes "P" ∷ p.1 ∷ p.2 ∷ p.3 ∷ []) ≡ entry A name (record { place = place; text = text })
-    entry_packet h =
-        let kind = text_from_reads p.0 (codes "P") h.0 h.1 in
-        ap (entry_parts A name (record { place = place; text = text })) (ap (λ k. k ∷ p.1 ∷ p.2 ∷ p.3 ∷ []) (sym kind) ∙ sym are)
-
-    pub entry_erased : Erases p → erased_at place ≡ entry A name (record { place = place; text = text })
-    entry_erased h = sym (ap (λ (t : List ℕ). entry A name (record { place = place; text = t })) (text_erased h))
-
-    pub entry_unreadable : (Spells p.0 (codes "P") → ⊥) → (Erases p → ⊥) → unreadable_at (record { place = place; text = text }) ≡ entry A name (record { place = place; text = text })
-    entry_unreadable no-packet no_slot =
-        sym
-        (ap (entry_parts A name (record { place = place; text = text })) are ∙ cond-false _ _ _ (same_not_spelled p.0 (codes "P") no-packet)
-        ∙ cond-false _ _ _ (same_not text (codes "E,,,") (λ e. no_slot (parts_erased e))))
 
 -- where a line stands in a log, its parts do
 module _ {K S : Type 0} (A : Alphabet K S) (name : FieldName) (log : List ℕ) (at : Placed) (h : Stands log at) where

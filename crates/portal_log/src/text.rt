@@ -10,10 +10,7 @@ fn before(bytes: &[u8], stop: u8) -> usize
     ensures value { result ≡ before stop bytes.now }
     ensures within { result ≤ length bytes.now }
 {
-    bytes
-        .iter()
-        .position(|b| *b == stop)
-        .unwrap_or(bytes.len())
+    bytes.iter().position(|b| *b == stop).unwrap_or(bytes.len())
 }
 
 // A part of a text: what it says, and how many bytes stand before it.
