@@ -2,3 +2,4 @@ pub mod Cuts
 pub mod Places
 pub mod Hex
 pub mod Entries
+pub mod Heads
