@@ -1,7 +1,8 @@
 // The log feed: gives out the packets of one block number in a log.
 #![tactic(auto)]
 
-ghost use Rattle.std.specs.Prelude.{◌≡◌};
+ghost use Rattle.std.specs.Prelude.{◌≡◌, ◌≤◌, length};
+ghost use Rattle.portal_log.specs.Entries.{log_limit};
 ghost use Rattle.std.specs.Result.{result_map_both};
 ghost use Rattle.field.specs.Alphabet.{alphabet};
 ghost use Rattle.answer.specs.Refusals.{answered};
@@ -55,6 +56,7 @@ fn with_number<F: LogField>(number: u8, line: Line<'_>) -> Option<Packet<F>>
 pub struct LogFeed<'a, F> {
     reader: Reader<'a, F>,
     number: u8,
+    ghost short: { length reader.lines.text.now ≤ log_limit },
 }
 
 impl<'a, F: LogField> LogFeed<'a, F> {

@@ -29,7 +29,7 @@ pub(crate) fn refusal_line(
 pub fn head_line(heap: Global, head: Head) -> Result<String, AllocError>
     ensures { IfOk result (λ t. string_bytes t ≡ head_line head) }
 {
-    let name = head.name.text();
+    let name = head.name;
     let l = head.l;
     let k = head.k;
     format!(in heap; "L,{name},{l},{k}\n")
