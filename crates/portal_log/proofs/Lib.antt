@@ -3,3 +3,4 @@ pub mod Places
 pub mod Hex
 pub mod Entries
 pub mod Heads
+pub mod Readers
