@@ -51,6 +51,7 @@ impl<'a> Iterator for Lines<'a> {
         }
         let rest = &self.text[place..];
         let (text, end) = rest.split_at(before(rest, b'\n'));
+        // `end` begins with the LF, where there is one
         self.place += text.len() + end.len().min(1);
         Some(Part { text, place })
     }
