@@ -2,13 +2,12 @@
 --   with_number      the packet of an entry that is a packet line with this number
 --   numbered         the packets of all entries with this number, in order, whatever their headers
 --   log_packets      those of a log
---   fed              what a feed has still to come; of a log that is too long, nothing
+--   fed              what a feed has still to come
 --   names            a first line was read, and it names this field
 --   feed_refusal     why no feed is made: the lowest refusal that applies
 -- Assumes nothing.
 use Rattle.std.specs.Prelude.{ℕ, Bool, false, cond, not, List, [], ◌∷◌, length, Some, None, Option, ◌==◌, nat_lt}
-use Rattle.std.specs.List.{flat_map}
-use Rattle.std.specs.Option.{option_to_list}
+use Rattle.std.specs.List.{filter_map}
 use Rattle.std.specs.Str.{bytes_eq}
 use Rattle.field.specs.Alphabet.{Alphabet}
 use Rattle.packet.specs.declared.Packet.{Packet}
@@ -43,10 +42,10 @@ module _ {K S : Type 0} (A : Alphabet K S) (name : FieldName) (n : ℕ) where
   with_number (unreadable_at line) = None
 
   abbrev pub numbered : List Entry → List (Packet S)
-  numbered entries = flat_map (λ e. option_to_list (with_number e)) entries
+  numbered entries = filter_map with_number entries
 
   abbrev pub log_packets : List ℕ → List (Packet S)
   log_packets log = numbered (log_entries A name log)
 
   abbrev pub fed : Reader S → List (Packet S)
-  fed r = cond (nat_lt log_limit (length r.lines.text.now)) [] (numbered (left_entries A name r))
+  fed r = numbered (left_entries A name r)

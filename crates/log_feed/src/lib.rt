@@ -1,7 +1,8 @@
 // The log feed: gives out the packets of one block number in a log.
 #![tactic(auto)]
 
-ghost use Rattle.std.specs.Prelude.{◌≡◌};
+ghost use Rattle.std.specs.Prelude.{◌≡◌, ◌≤◌, length};
+ghost use Rattle.portal_log.specs.Entries.{log_limit};
 ghost use Rattle.std.specs.Result.{result_map_both};
 ghost use Rattle.field.specs.Alphabet.{alphabet};
 ghost use Rattle.answer.specs.Refusals.{answered};
@@ -26,10 +27,7 @@ mod tests;
 fn names<F: LogField>(head: Option<Head>) -> bool
     ensures { result ≡ names F.LogField.name head }
 {
-    match head {
-        Some(head) => head.name == F::name(),
-        None => false,
-    }
+    head.is_some_and(|head| head.name == F::name())
 }
 
 // The packet of a packet line with this number.
@@ -44,17 +42,16 @@ fn with_number<F: LogField>(number: u8, line: Line<'_>) -> Option<Packet<F>>
     else {
         return None;
     };
-    match read_packet(part.text, header.text, payload.text) {
-        Some((n, packet)) if n == number => Some(packet),
-        _ => None,
-    }
+    let (n, packet) = read_packet(part.text, header.text, payload.text)?;
+    (n == number).then_some(packet)
 }
 
-// The lines that are left, read for the packets of one number.
+// The lines that are left, read for the packets of one number. The log is within its limit.
 #[derive(Drop)]
 pub struct LogFeed<'a, F> {
     reader: Reader<'a, F>,
     number: u8,
+    ghost short: { length reader.lines.text.now ≤ log_limit },
 }
 
 impl<'a, F: LogField> LogFeed<'a, F> {
@@ -62,16 +59,14 @@ impl<'a, F: LogField> LogFeed<'a, F> {
     pub fn new(log: &'a [u8], number: u8) -> Result<LogFeed<'a, F>, Refusal>
         ensures { result_map_both (λ s. fed (alphabet F.Scalar.FiniteField F.FiniteField F.SymbolField) F.LogField.name s.number s.reader) (λ e. e) result ≡ answered (feed_refusal F.LogField.name number log.now) (log_packets (alphabet F.Scalar.FiniteField F.FiniteField F.SymbolField) F.LogField.name number log.now) }
     {
-        let (head, lines) = open(log);
-        let long = log.len() > LIMIT;
-        let named = names::<F>(head);
         if number > 7 {
             return Err(Refusal::BlockNumber);
         }
-        if long {
+        if log.len() > LIMIT {
             return Err(Refusal::LogLong);
         }
-        if !named {
+        let (head, lines) = open(log);
+        if !names::<F>(head) {
             return Err(Refusal::LineShape);
         }
         let reader = Reader::of(lines);
@@ -84,25 +79,15 @@ impl<'a, F: LogField> Feed for LogFeed<'a, F> {
 
     ghost list = { λ s. fed (alphabet F.Scalar.FiniteField F.FiniteField F.SymbolField) F.LogField.name s.number s.reader };
 
-    ghost short = { λ s. fed_short (alphabet F.Scalar.FiniteField F.FiniteField F.SymbolField) F.LogField.name s.number s.reader };
+    ghost short = { λ s. fed_short (alphabet F.Scalar.FiniteField F.FiniteField F.SymbolField) F.LogField.name s.number s.reader s.short };
 
     fn len(&self) -> usize {
-        let mut many = 0;
-        if self.reader.size() > LIMIT {
-            return many;
-        }
-        for line in self.reader {
-            if with_number::<F>(self.number, line).is_some() {
-                many += 1;
-            }
-        }
-        many
+        self.reader
+            .filter_map(|line| with_number::<F>(self.number, line))
+            .count()
     }
 
     fn next(&mut self) -> Option<Packet<F>> {
-        if self.reader.size() > LIMIT {
-            return None;
-        }
         while let Some(line) = self.reader.next() {
             if let Some(packet) = with_number(self.number, line) {
                 return Some(packet);

@@ -1,14 +1,17 @@
 -- A text cut at the first byte of a kind: bytes before it, and the pieces.
-use Rattle.std.proofs.Common.{◌≡◌, ℕ, suc, ◌+◌, ◌<◌, ◌≤◌, Bool, true, false, cond, eqb, List, [], ◌∷◌, length, get_or, take, drop, sym, refl, ap, ◌∙◌, ap₂, ⊎_elim, arith}
-use Rattle.std.proofs.lemmas.List.{at_drop_more, take_all, drop_all}
+use Rattle.std.proofs.Common.{◌≡◌, ℕ, suc, ◌+◌, ◌<◌, ◌≤◌, Bool, true, false, cond, eqb, List, [], ◌∷◌, length, take, drop, sym, refl, ap, ◌∙◌, ap₂, ⊎_elim, arith, add-one, Some, None, Option, length-drop}
+use Rattle.std.proofs.lemmas.List.{take_all, drop_all, take_rest, drop-drop}
 use Rattle.std.proofs.lemmas.Bool.{cases_lt, cond-true, cond-false, cond_both, eq-eqb, ne_eqb}
+use Rattle.std.specs.Borrow.{Bor}
+use Rattle.std.specs.Slice.{IsGetRangeResult}
+use Rattle.portal_log.specs.Views.{parts_of}
 use Rattle.portal_log.specs.Text.{lf, comma, before, onto_first, pieces, lines, parts}
 
-pub before_here : (b : ℕ) (text : List ℕ) (i : ℕ) → i < length text → get_or text i 0 ≡ b → before b (drop i text) ≡ 0
-before_here b text i h e = at_drop_more (before b) text i 0 h ∙ cond-true _ 0 _ (eq-eqb _ b e)
+pub before_here : (b c : ℕ) (cs : List ℕ) → c ≡ b → before b (c ∷ cs) ≡ 0
+before_here b c cs e = cond-true _ 0 _ (eq-eqb _ b e)
 
-pub before_more : (b : ℕ) (text : List ℕ) (i : ℕ) → i < length text → (get_or text i 0 ≡ b → ⊥) → before b (drop i text) ≡ suc (before b (drop (i + 1) text))
-before_more b text i h e = at_drop_more (before b) text i 0 h ∙ cond-false _ 0 _ (ne_eqb _ b e)
+pub before_more : (b c : ℕ) (cs : List ℕ) → (c ≡ b → ⊥) → before b (c ∷ cs) ≡ before b cs + 1
+before_more b c cs e = cond-false _ 0 _ (ne_eqb _ b e) ∙ sym (add-one (before b cs))
 
 pub before_within : (b : ℕ) (text : List ℕ) → before b text ≤ length text
 before_within b [] = omega arith
@@ -66,10 +69,16 @@ lines_cut (c ∷ cs) end after h is more none =
     ∙ ap₂ (λ front rest. front ∷ lines rest) (sym (take_all end (c ∷ cs) le)) (sym (drop_all after (c ∷ cs) (omega (arith, none le)))))
     (cases_lt end (length (c ∷ cs)))
 
--- the first part, with more after its comma or as the last
-pub parts_cut : (text : List ℕ) (end : ℕ) → end ≡ before comma text → end < length text → parts text ≡ take end text ∷ parts (drop (end + 1) text)
-parts_cut text end is h = pieces_cut comma ([] ∷ []) text (omega (arith, is, h)) ∙ ap (λ e. take e text ∷ parts (drop (e + 1) text)) (sym is)
-
-pub parts_last : (text : List ℕ) (end : ℕ) → end ≡ before comma text → length text ≤ end → parts text ≡ take end text ∷ []
-parts_last [] end is h = ap (λ e. take e [] ∷ []) (sym is)
-parts_last (c ∷ cs) end is h = pieces_whole comma ([] ∷ []) (λ _. refl) c cs (omega (arith, is, h)) ∙ ap (λ front. front ∷ []) (sym (take_all end (c ∷ cs) h))
+-- the first part, and those after its comma, if it has one; `back` begins with that comma
+pub parts_first : (text : List ℕ) (end : ℕ) (o : Option (Bor (List ℕ))) → end ≡ before comma text → (back : List ℕ) → back ≡ drop end text → IsGetRangeResult back 1 (length back) o →
+    parts text ≡ take end text ∷ parts_of o
+parts_first text end (Some rest) is back e h =
+    let long = ap length e ∙ length-drop end text in
+    let after : rest.now ≡ drop (end + 1) text = h.0.2 ∙ take_rest back 1 ∙ ap (drop 1) e ∙ drop-drop 1 end text in
+    pieces_cut comma ([] ∷ []) text (omega (arith, is, h.0.0, long))
+    ∙ ap (λ n. take n text ∷ parts (drop (n + 1) text)) (sym is) ∙ ap (λ more. take end text ∷ parts more) (sym after)
+parts_first text end None is back e h = whole text end is (⊎_elim (λ lt. omega (arith, ap length e ∙ length-drop end text)) (λ lt. absurd (omega arith)) h.0)
+  where
+    whole : (text : List ℕ) (end : ℕ) → end ≡ before comma text → length text ≤ end → parts text ≡ take end text ∷ []
+    whole [] end is h = ap (λ n. take n [] ∷ []) (sym is)
+    whole (c ∷ cs) end is h = pieces_whole comma ([] ∷ []) (λ _. refl) c cs (omega (arith, is, h)) ∙ ap (λ front. front ∷ []) (sym (take_all end (c ∷ cs) h))

@@ -1,98 +1,44 @@
 -- Lines after the first, by their four parts.
-use Rattle.std.proofs.Common.{◌≡◌, ℕ, ◌+◌, ◌<◌, eqb, List, [], ◌∷◌, ◌++◌, length, Some, None, codes, Option, sym, refl, ap, ◌∙◌, subst, append_assoc, arith, length-append}
+use Rattle.std.proofs.Common.{◌≡◌, ℕ, ◌+◌, cond, eqb, List, [], ◌∷◌, ◌++◌, length, Some, None, codes, Option, sym, refl, ap, ◌∙◌, subst, arith, length-append}
 use Rattle.std.specs.Str.{bytes_eq}
-use Rattle.std.proofs.lemmas.List.{append_cancel_right, nil_from_length}
-use Rattle.std.proofs.lemmas.Bool.{cond-false, cond_both, eqb-true}
-use Rattle.std.proofs.lemmas.Slice.Eq.{text_from_reads, bytes_eq-Decides}
+use Rattle.std.specs.List.{slice_split, onto_first as std_onto_first, join_with_byte}
+use Rattle.std.proofs.lemmas.Bool.{cond_both}
+use Rattle.std.proofs.lemmas.List.Splits.{join_with_byte-slice_split}
+use Rattle.std.proofs.lemmas.Slice.Eq.{bytes_eq-Decides}
 use Rattle.field.specs.Alphabet.{Alphabet}
 use Rattle.packet.specs.declared.Packet.{Packet}
 use Rattle.portal_log.specs.declared.name.FieldName.{FieldName}
-use Rattle.portal_log.specs.Text.{lf, comma, onto_first, parts, four, line}
+use Rattle.portal_log.specs.Text.{comma, onto_first, parts, four}
 use Rattle.portal_log.specs.Places.{Placed, Stands}
 use Rattle.portal_log.specs.Entries.{packet_at, erased_at, unreadable_at, EntryStands, packet_of, other_entry, entry_parts, entry}
 use Rattle.portal_log.proofs.Places.{stands_front, stands_after}
-use Rattle.portal_log.proofs.Literals.{Spells, same_not, same_not_spelled, spells_own}
 
--- a part before others, and a byte before the first part
-line_skip : (ps : List (List ℕ)) → 0 < length ps → line ([] ∷ ps) ≡ comma ∷ line ps
-line_skip [] h = absurd (omega arith)
-line_skip (p ∷ ps) h = refl
+onto_same : (c : ℕ) (ps : List (List ℕ)) → onto_first c ps ≡ std_onto_first c ps
+onto_same c [] = refl
+onto_same c (p ∷ ps) = refl
 
-line_onto : (c : ℕ) (ps : List (List ℕ)) → 0 < length ps → line (onto_first c ps) ≡ c ∷ line ps
-line_onto c [] h = absurd (omega arith)
-line_onto c (p ∷ []) h = refl
-line_onto c (p ∷ q ∷ ps) h = refl
-
-onto_some : (c : ℕ) (ps : List (List ℕ)) → 0 < length (onto_first c ps)
-onto_some c [] = omega arith
-onto_some c (p ∷ ps) = omega arith
-
-parts_some : (text : List ℕ) → 0 < length (parts text)
-parts_some [] = omega arith
-parts_some (c ∷ cs) = cond_both (eqb c comma) ([] ∷ parts cs) (onto_first c (parts cs)) (λ ps. 0 < length ps) (λ _. omega arith) (λ _. onto_some c (parts cs))
+parts_split : (text : List ℕ) → parts text ≡ slice_split (λ b. eqb b comma) text
+parts_split [] = refl
+parts_split (c ∷ cs) =
+    ap (cond (eqb c comma) ([] ∷ parts cs)) (onto_same c (parts cs)) ∙ ap (λ ps. cond (eqb c comma) ([] ∷ ps) (std_onto_first c ps)) (parts_split cs)
 
 -- the parts make up the line
-pub line_parts : (text : List ℕ) → line (parts text) ≡ text ++ lf ∷ []
-line_parts [] = refl
-line_parts (c ∷ cs) =
-    cond_both (eqb c comma) ([] ∷ parts cs) (onto_first c (parts cs)) (λ ps. line ps ≡ c ∷ (cs ++ lf ∷ []))
-    (λ t. line_skip (parts cs) (parts_some cs) ∙ ap (λ b. b ∷ line (parts cs)) (sym (eqb-true c comma t)) ∙ ap (λ l. c ∷ l) (line_parts cs))
-    (λ _. line_onto c (parts cs) (parts_some cs) ∙ ap (λ l. c ∷ l) (line_parts cs))
+parts_joined : (text : List ℕ) → join_with_byte comma (parts text) ≡ text
+parts_joined text = ap (join_with_byte comma) (parts_split text) ∙ join_with_byte-slice_split comma text
 
 four_are : (ps : List (List ℕ)) (p : List ℕ × List ℕ × List ℕ × List ℕ) → Some p ≡ four ps → ps ≡ p.0 ∷ p.1 ∷ p.2 ∷ p.3 ∷ []
-four_are [] p e = let z : ◌≡◌ {A = ℕ} 0 1 = cc in absurd (let y : ⊥ = omega arith in y)
-four_are (a ∷ []) p e = let z : ◌≡◌ {A = ℕ} 0 1 = cc in absurd (let y : ⊥ = omega arith in y)
-four_are (a ∷ b ∷ []) p e = let z : ◌≡◌ {A = ℕ} 0 1 = cc in absurd (let y : ⊥ = omega arith in y)
-four_are (a ∷ b ∷ c ∷ []) p e = let z : ◌≡◌ {A = ℕ} 0 1 = cc in absurd (let y : ⊥ = omega arith in y)
+four_are [] p e = cc
+four_are (a ∷ []) p e = cc
+four_are (a ∷ b ∷ []) p e = cc
+four_are (a ∷ b ∷ c ∷ []) p e = cc
 four_are (a ∷ b ∷ c ∷ d ∷ []) p e = cc
-four_are (a ∷ b ∷ c ∷ d ∷ x ∷ ps) p e = let z : ◌≡◌ {A = ℕ} 0 1 = cc in absurd (let y : ⊥ = omega arith in y)
-
--- the parts of `E,,,`
-abbrev pub Erases : List ℕ × List ℕ × List ℕ × List ℕ → Type 0
-Erases p = Spells p.0 (codes "E") × (length p.1 ≡ 0) × (length p.2 ≡ 0) × (length p.3 ≡ 0)
+four_are (a ∷ b ∷ c ∷ d ∷ x ∷ ps) p e = cc
 
 -- p are the four parts of a line
-module _ (text : List ℕ) (p : List ℕ × List ℕ × List ℕ × List ℕ) (is : Some p ≡ four (parts text)) where
-  are : parts text ≡ p.0 ∷ p.1 ∷ p.2 ∷ p.3 ∷ []
-  are = four_are (parts text) p is
-
-  pub parts_long : length text ≡ length p.0 + length p.1 + length p.2 + length p.3 + 3
-  parts_long =
-      let whole : length (line (p.0 ∷ p.1 ∷ p.2 ∷ p.3 ∷ [])) ≡ length (text ++ lf ∷ []) = ap (λ ps. length (line ps)) (sym are) ∙ ap length (line_parts text) in
-      omega (arith, simp length-append at whole)
-
-  text_erased : Erases p → text ≡ codes "E,,,"
-  text_erased h =
-      let kind = text_from_reads p.0 (codes "E") h.0.0 h.0.1 in
-      let number = nil_from_length p.1 h.1 in
-      let header = nil_from_length p.2 h.2 in
-      let payload = nil_from_length p.3 h.3 in
-      let e : parts text ≡ codes "E" ∷ [] ∷ [] ∷ [] ∷ [] = cc (are, kind, number, header, payload) in
-      append_cancel_right text (codes "E,,,") (lf ∷ []) (sym (line_parts text) ∙ ap line e)
-
-  parts_erased : text ≡ codes "E,,," → Erases p
-  parts_erased e =
-      let they : p.0 ∷ p.1 ∷ p.2 ∷ p.3 ∷ [] ≡ codes "E" ∷ [] ∷ [] ∷ [] ∷ [] = sym are ∙ ap parts e in
-      let kind : p.0 ≡ codes "E" = cc in
-      let number : p.1 ≡ [] = cc in
-      let header : p.2 ≡ [] = cc in
-      let payload : p.3 ≡ [] = cc in
-      (subst (λ (t : List ℕ). Spells t (codes "E")) (sym kind) (spells_own (codes "E")), ap length number, ap length header, ap length payload)
-
-  module _ {K S : Type 0} (A : Alphabet K S) (name : FieldName) (place : ℕ) where
-    pub entry_packet : Spells p.0 (codes "P") → entry_parts A name (record { place = place; text = text }) (codes "P" ∷ p.1 ∷ p.2 ∷ p.3 ∷ []) ≡ entry A name (record { place = place; text = text })
-    entry_packet h =
-        let kind = text_from_reads p.0 (codes "P") h.0 h.1 in
-        ap (entry_parts A name (record { place = place; text = text })) (ap (λ k. k ∷ p.1 ∷ p.2 ∷ p.3 ∷ []) (sym kind) ∙ sym are)
-
-    pub entry_erased : Erases p → erased_at place ≡ entry A name (record { place = place; text = text })
-    entry_erased h = sym (ap (λ (t : List ℕ). entry A name (record { place = place; text = t })) (text_erased h))
-
-    pub entry_unreadable : (Spells p.0 (codes "P") → ⊥) → (Erases p → ⊥) → unreadable_at (record { place = place; text = text }) ≡ entry A name (record { place = place; text = text })
-    entry_unreadable no-packet no_slot =
-        sym
-        (ap (entry_parts A name (record { place = place; text = text })) are ∙ cond-false _ _ _ (same_not_spelled p.0 (codes "P") no-packet)
-        ∙ cond-false _ _ _ (same_not text (codes "E,,,") (λ e. no_slot (parts_erased e))))
+pub parts_long : (text : List ℕ) (p : List ℕ × List ℕ × List ℕ × List ℕ) → Some p ≡ four (parts text) → length text ≡ length p.0 + length p.1 + length p.2 + length p.3 + 3
+parts_long text p is =
+    let whole = sym (parts_joined text) ∙ ap (join_with_byte comma) (four_are (parts text) p is) in
+    omega (arith, simp length-append at (ap length whole))
 
 -- where a line stands in a log, its parts do
 module _ {K S : Type 0} (A : Alphabet K S) (name : FieldName) (log : List ℕ) (at : Placed) (h : Stands log at) where
@@ -109,8 +55,7 @@ module _ {K S : Type 0} (A : Alphabet K S) (name : FieldName) (log : List ℕ) (
   parts_stand : (a b c d : List ℕ) → parts at.text ≡ a ∷ b ∷ c ∷ d ∷ [] → EntryStands log (entry_parts A name at (a ∷ b ∷ c ∷ d ∷ []))
   parts_stand a b c d e =
       let place = at.place in
-      let whole : at.text ≡ a ++ comma ∷ (b ++ comma ∷ (c ++ comma ∷ d)) =
-      append_cancel_right at.text _ (lf ∷ []) (sym (line_parts at.text) ∙ ap line e ∙ simp append_assoc) in
+      let whole : at.text ≡ a ++ comma ∷ (b ++ comma ∷ (c ++ comma ∷ d)) = sym (parts_joined at.text) ∙ ap (join_with_byte comma) e in
       let first = stands_after log place a comma _ (subst (λ (text : List ℕ). Stands log (record { place = place; text = text })) whole h) in
       let second = stands_after log _ b comma _ first in
       let third = stands_after log _ c comma _ second in

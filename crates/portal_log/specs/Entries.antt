@@ -3,17 +3,16 @@
 --   packet_of      the number and the packet of a packet line's number, header and payload, absent where one of them cannot be read
 --   Entry          a packet line by its number, header and payload, an erased slot, or a line that cannot be read
 --   EntryStands    each text of an entry is what the log has at its place
---   four_placed    the placed parts where there are four
 --   entry          what the line at a place is: `P,number,x,y`, `E,,,` or neither
 --   log_entries    what the lines of a log after the first are
 --   log_limit      no feed or sheet reads a log of more bytes
 -- Assumes nothing.
-use Rattle.std.specs.Prelude.{ℕ, cond, List, [], ◌∷◌, map, drop, Some, None, codes, Option, nat_le}
+use Rattle.std.specs.Prelude.{ℕ, cond, List, map, drop, Some, None, codes, Option, nat_le}
 use Rattle.std.specs.Str.{bytes_eq}
 use Rattle.field.specs.Alphabet.{Alphabet}
 use Rattle.packet.specs.declared.Packet.{Packet}
 use Rattle.portal_log.specs.declared.name.FieldName.{FieldName}
-use Rattle.portal_log.specs.Text.{lines, parts}
+use Rattle.portal_log.specs.Text.{lines, parts, four}
 use Rattle.portal_log.specs.Places.{Placed, placed, Stands}
 use Rattle.portal_log.specs.Numbers.{one_digit}
 use Rattle.portal_log.specs.Symbols.{symbol}
@@ -37,14 +36,6 @@ at_most_7 (Some n) = cond (nat_le n 7) (Some n) None
 
 abbrev pub block_number : List ℕ → Option ℕ
 block_number text = at_most_7 (one_digit text)
-
-abbrev pub four_placed : List Placed → Option (Placed × Placed × Placed × Placed)
-four_placed [] = None
-four_placed (a ∷ []) = None
-four_placed (a ∷ b ∷ []) = None
-four_placed (a ∷ b ∷ c ∷ []) = None
-four_placed (a ∷ b ∷ c ∷ d ∷ []) = Some (a, b, c, d)
-four_placed (a ∷ b ∷ c ∷ d ∷ e ∷ ps) = None
 
 module _ {K S : Type 0} (A : Alphabet K S) (name : FieldName) where
   abbrev pub packet_values : Option ℕ → Option S → Option S → Option (ℕ × Packet S)
@@ -70,7 +61,7 @@ module _ {K S : Type 0} (A : Alphabet K S) (name : FieldName) where
 
   -- a line by its parts
   abbrev pub entry_parts : Placed → List (List ℕ) → Entry
-  entry_parts line texts = entry_by line (four_placed (placed line.place texts))
+  entry_parts line texts = entry_by line (four (placed line.place texts))
 
   abbrev pub entry : Placed → Entry
   entry line = entry_parts line (parts line.text)

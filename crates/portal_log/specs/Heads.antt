@@ -1,5 +1,6 @@
 -- The first line of a log, `L,NAME,ℓ,k`.
 --   head_of      what a first line says, absent where it is not of its shape
+--   head_text    the first line without its LF
 --   head_line    the first line as it is written
 --   first_head   what the first of some lines says, absent where there is none
 -- Assumes nothing.
@@ -7,7 +8,8 @@ use Rattle.std.specs.Prelude.{ℕ, cond, List, [], ◌∷◌, Some, None, codes,
 use Rattle.std.specs.Str.{bytes_eq}
 use Rattle.portal_log.specs.declared.head.Head.{Head}
 use Rattle.portal_log.specs.declared.name.FieldName.{FieldName}
-use Rattle.portal_log.specs.Text.{parts, four, line}
+use Rattle.std.specs.List.{join_with_byte}
+use Rattle.portal_log.specs.Text.{comma, parts, four, line}
 use Rattle.portal_log.specs.Numbers.{small}
 use Rattle.portal_log.specs.Names.{spelled, named}
 
@@ -23,6 +25,9 @@ head_parts (Some p) = cond (bytes_eq p.0 (codes "L")) (head_values (named p.1) (
 
 abbrev pub head_of : List ℕ → Option Head
 head_of text = head_parts (four (parts text))
+
+abbrev pub head_text : Head → List ℕ
+head_text h = join_with_byte comma (codes "L" ∷ spelled h.name ∷ decimal h.l ∷ decimal h.k ∷ [])
 
 abbrev pub head_line : Head → List ℕ
 head_line h = line (codes "L" ∷ spelled h.name ∷ decimal h.l ∷ decimal h.k ∷ [])

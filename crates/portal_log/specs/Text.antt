@@ -4,7 +4,7 @@
 --   pieces b    what stands between the bytes b, with `last` for what an empty end gives
 --   lines       the lines of a text; a last line may lack its LF, and is not empty then
 --   parts       the parts of a line
---   four        the parts where there are four, as each line of a log has
+--   four        the parts where there are four, as each line of a log has; also parts with their places
 --   line        the line of some parts, with its LF
 -- Assumes nothing.
 use Rattle.std.specs.Prelude.{ℕ, suc, cond, List, [], ◌∷◌, ◌++◌, Some, None, Option, ◌==◌}
@@ -34,7 +34,7 @@ lines text = pieces lf [] text
 abbrev pub parts : List ℕ → List (List ℕ)
 parts text = pieces comma ([] ∷ []) text
 
-abbrev pub four : List (List ℕ) → Option (List ℕ × List ℕ × List ℕ × List ℕ)
+abbrev pub four : {X : Type 0} → List X → Option (X × X × X × X)
 four [] = None
 four (a ∷ []) = None
 four (a ∷ b ∷ []) = None

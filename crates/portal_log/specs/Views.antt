@@ -3,14 +3,13 @@
 --   left_lines     the lines that a reader of a text has left
 --   placed_lines   those with their places
 --   left_parts     the parts that a reader of a line has left
---   Gives          one call of a reader: none is left, or the first is given and the others are left
---   GivesView      the same of a reader that gives values which stand for what was left
 --   GivesLine      one call of a reader of lines
 --   texts          what four parts hold
 --   shown          what a line of a log is
 -- Assumes nothing.
-use Rattle.std.specs.Prelude.{◌≡◌, ℕ, ◌^◌, ◌<◌, List, [], ◌∷◌, length, drop, IfSome, Some, None, Option}
+use Rattle.std.specs.Prelude.{◌≡◌, ℕ, ◌^◌, ◌<◌, List, [], length, drop, IfSome, Some, None, Option}
 use Rattle.std.specs.Borrow.{Bor}
+use Rattle.std.specs.Iterator.{YieldsFirstBy}
 use Rattle.portal_log.specs.declared.line.Line.{Line}
 use Rattle.portal_log.specs.declared.line.Line.TheVariants.{Packet, Erased, Unreadable}
 use Rattle.portal_log.specs.declared.text.Lines.{Lines}
@@ -36,18 +35,9 @@ parts_of (Some rest) = parts rest.now
 abbrev pub left_parts : Parts → List (List ℕ)
 left_parts s = parts_of s.rest
 
-abbrev pub Gives : List (List ℕ) → Option (Bor (List ℕ)) → List (List ℕ) → Type 0
-Gives left None more = (left ≡ []) × (more ≡ [])
-Gives left (Some piece) more = left ≡ piece.now ∷ more
-
--- `view` of what is given is the first of what was left
-abbrev pub GivesView : {X Y : Type 0} → (X → Y) → List Y → Option X → List Y → Type 0
-GivesView view left None more = (left ≡ []) × (more ≡ [])
-GivesView view left (Some x) more = left ≡ view x ∷ more
-
 pub record GivesLine (s : Lines) (r : Option Part) (t : Lines) : Type 0 where
-  pub gives : GivesView (λ p. p.text.now) (left_lines s) r (left_lines t)
-  pub places : GivesView part_of (placed_lines s) r (placed_lines t)
+  pub gives : YieldsFirstBy (λ p. p.text.now) left_lines s r t
+  pub places : YieldsFirstBy part_of placed_lines s r t
   pub stands : IfSome r (λ p. Stands s.text.now (part_of p))
   pub same : t.text.now ≡ s.text.now
   pub fits : length s.text.now < 2 ^ 64

@@ -1,8 +1,8 @@
 // Symbols in a log: codes of a fixed number of capital hex digits, read and written.
-ghost use Rattle.std.specs.Prelude.{◌≡◌, ◌<◌, Some};
+ghost use Rattle.std.specs.Prelude.{◌≡◌, Some};
 ghost use Rattle.field.specs.Alphabet.{alphabet};
 ghost use Rattle.portal_log.specs.Names.{digits};
-ghost use Rattle.portal_log.specs.Numbers.{glyph, hex};
+ghost use Rattle.portal_log.specs.Numbers.{hex};
 ghost use Rattle.portal_log.specs.Symbols.{symbol};
 
 use crate::digits::hex_value;
@@ -17,21 +17,7 @@ pub fn read_symbol<F: LogField>(part: &[u8]) -> Option<F>
     if part.len() != F::name().digits() {
         return None;
     }
-    match hex_value(part) {
-        Ok(code) => F::from_code(code),
-        Err(_) => None,
-    }
-}
-
-// The capital hex digit of a value.
-fn hex_char(digit: u32) -> char
-    requires { digit < 16 }
-    ensures { result ≡ glyph digit }
-{
-    match char::from_digit(digit, 16) {
-        Some(c) => c.to_ascii_uppercase(),
-        None => unreachable(),
-    }
+    F::from_code(hex_value(part).ok()?)
 }
 
 // A symbol that prints as its code.
@@ -44,7 +30,8 @@ impl<F: LogField> fmt::Display for Code<F> {
     fn fmt<W: fmt::Write>(&self, f: &mut fmt::Formatter<W>) -> fmt::Result {
         let code = self.0.code();
         for place in (0..F::name().digits()).rev() {
-            f.write_char(hex_char((code >> (4 * place)) % 16))?;
+            let digit = (code >> (4 * place)) % 16;
+            write!(f, "{digit:X}")?;
         }
         Ok(())
     }

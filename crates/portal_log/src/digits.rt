@@ -51,10 +51,7 @@ pub(crate) fn hex_value(part: &[u8]) -> Result<u32, usize>
 {
     let mut value = 0;
     for (i, b) in part.iter().enumerate() {
-        let Some(digit) = hex_digit(*b) else {
-            return Err(i);
-        };
-        value = 16 * value + u32::from(digit);
+        value = 16 * value + u32::from(hex_digit(*b).ok_or(i)?);
     }
     Ok(value)
 }

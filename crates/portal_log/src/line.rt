@@ -1,7 +1,7 @@
 // A line of a log after the first, and the packet of a packet line.
-ghost use Rattle.std.specs.Prelude.{◌≡◌, ◌+◌, ◌^◌, ◌<◌, [], ◌∷◌, length, codes};
+ghost use Rattle.std.specs.Prelude.{◌≡◌, ◌+◌, ◌^◌, ◌<◌, length};
 ghost use Rattle.field.specs.Alphabet.{alphabet};
-ghost use Rattle.portal_log.specs.Entries.{block_number, packet_of, entry_parts, entry};
+ghost use Rattle.portal_log.specs.Entries.{block_number, packet_at, packet_of, entry};
 ghost use Rattle.portal_log.specs.Views.{part_of, shown};
 
 use crate::code::read_symbol;
@@ -31,10 +31,7 @@ pub enum Line<'a> {
 fn block_number(text: &[u8]) -> Option<u8>
     ensures { result ≡ block_number text.now }
 {
-    match one_digit(text) {
-        Some(n) if n <= 7 => Some(n),
-        _ => None,
-    }
+    one_digit(text).filter(|n| *n <= 7)
 }
 
 // The number and the packet of a packet line's parts.
@@ -51,22 +48,14 @@ pub fn read_packet<F: LogField>(
     Some((number, Packet { x, y }))
 }
 
-// A line with `P` before its number, header and payload.
-fn packet_line<'a, F: LogField>(
-    line: Part<'a>,
-    number: &'a [u8],
-    header: &'a [u8],
-    payload: &'a [u8],
-) -> Line<'a>
-    requires { line.place + 4 + length number.now + length header.now < 2 ^ 64 }
-    ensures { shown result ≡ entry_parts (alphabet F.Scalar.FiniteField F.FiniteField F.SymbolField) F.LogField.name (part_of line.entry) (codes "P" ∷ number.now ∷ header.now ∷ payload.now ∷ []) }
+// The packet line at a place, with these texts after its `P`.
+fn packet_at<'a>(place: usize, number: &'a [u8], header: &'a [u8], payload: &'a [u8]) -> Line<'a>
+    requires { place + 4 + length number.now + length header.now < 2 ^ 64 }
+    ensures { shown result ≡ packet_at (record { place = place + 2; text = number.now }) (record { place = place + 3 + length number.now; text = header.now }) (record { place = place + 4 + length number.now + length header.now; text = payload.now }) }
 {
-    if read_packet::<F>(number, header, payload).is_none() {
-        return Line::Unreadable(line);
-    }
     let number = Part {
         text: number,
-        place: line.place + 2,
+        place: place + 2,
     };
     let header = Part {
         text: header,
@@ -88,12 +77,14 @@ pub(crate) fn read_line<F: LogField>(line: Part<'_>) -> Line<'_>
     requires { line.place + length line.text.now < 2 ^ 64 }
     ensures { shown result ≡ entry (alphabet F.Scalar.FiniteField F.FiniteField F.SymbolField) F.LogField.name (part_of line.entry) }
 {
-    let Some((kind, number, header, payload)) = four_parts(line.text) else {
-        return Line::Unreadable(line);
-    };
-    match (kind, number, header, payload) {
-        (b"P", _, _, _) => packet_line::<F>(line, number, header, payload),
-        (b"E", b"", b"", b"") => Line::Erased { place: line.place },
+    if line.text == b"E,,,".as_slice() {
+        return Line::Erased { place: line.place };
+    }
+    match four_parts(line.text) {
+        Some((b"P", number, header, payload))
+            if read_packet::<F>(number, header, payload).is_some() => {
+            packet_at(line.place, number, header, payload)
+        },
         _ => Line::Unreadable(line),
     }
 }

@@ -1,5 +1,5 @@
 // The fields that a log can be in, by their names.
-ghost use Rattle.std.specs.Prelude.{◌≡◌};
+ghost use Rattle.std.specs.Prelude.{◌≡◌, Some};
 ghost use Rattle.portal_log.specs.declared.name.FieldName.{FieldName};
 ghost use Rattle.portal_log.specs.Names.{spelled, named, digits};
 
@@ -7,6 +7,7 @@ use field::SymbolField;
 use field::nibble::Nibble;
 use field::octet::Octet;
 use field::word::Word;
+use std::fmt;
 
 #[derive(Clone, Copy, PartialEq, Eq, Debug)]
 pub enum FieldName {
@@ -20,22 +21,11 @@ impl FieldName {
     pub fn read(text: &[u8]) -> Option<FieldName>
         ensures { result ≡ named text.now }
     {
-        match std::str::from_utf8(text) {
-            Ok("octet") => Some(FieldName::Octet),
-            Ok("word") => Some(FieldName::Word),
-            Ok("nibble") => Some(FieldName::Nibble),
+        match text {
+            b"octet" => Some(FieldName::Octet),
+            b"word" => Some(FieldName::Word),
+            b"nibble" => Some(FieldName::Nibble),
             _ => None,
-        }
-    }
-
-    // The name as it stands in a log.
-    pub fn text(self) -> &'static str
-        ensures { result.now ≡ spelled self }
-    {
-        match self {
-            FieldName::Octet => "octet",
-            FieldName::Word => "word",
-            FieldName::Nibble => "nibble",
         }
     }
 
@@ -48,6 +38,19 @@ impl FieldName {
             FieldName::Word => 4,
             FieldName::Nibble => 7,
         }
+    }
+}
+
+// Prints the name as it stands in a log.
+impl fmt::Display for FieldName {
+    ghost output = { λ name. Some (spelled name) };
+
+    fn fmt<W: fmt::Write>(&self, f: &mut fmt::Formatter<W>) -> fmt::Result {
+        f.write_str(match self {
+            FieldName::Octet => "octet",
+            FieldName::Word => "word",
+            FieldName::Nibble => "nibble",
+        })
     }
 }
 

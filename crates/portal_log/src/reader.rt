@@ -6,7 +6,7 @@ ghost use Rattle.portal_log.specs.Places.{placed};
 ghost use Rattle.portal_log.specs.Heads.{first_head};
 ghost use Rattle.portal_log.specs.Views.{left_lines, placed_lines};
 ghost use Rattle.portal_log.specs.Readers.{left_entries, GivesEntry};
-ghost use Rattle.std.specs.Iterator.{at_most};
+ghost use Rattle.std.specs.Iterator.{item_count};
 
 use crate::head::Head;
 use crate::line::{Line, read_line};
@@ -23,10 +23,7 @@ pub fn open(text: &[u8]) -> (Option<Head>, Lines<'_>)
     ensures text { result.1.text.now ≡ text.now }
 {
     let mut lines = Lines::of(text);
-    let head = match lines.next() {
-        Some(line) => Head::read(line.text),
-        None => None,
-    };
+    let head = lines.next().and_then(|line| Head::read(line.text));
     (head, lines)
 }
 
@@ -59,12 +56,10 @@ impl<'a, F: LogField> Iterator for Reader<'a, F> {
 
     ghost next_gives = { GivesEntry (alphabet F.Scalar.FiniteField F.FiniteField F.SymbolField) F.LogField.name };
 
-    ghost remaining = { λ s. at_most (length (left_lines s.lines)) };
+    ghost remaining = { item_count (λ s. left_lines s.lines) };
 
     fn next(&mut self) -> Option<Line<'a>> {
-        match self.lines.next() {
-            Some(line) => Some(read_line::<F>(line)),
-            None => None,
-        }
+        let line = self.lines.next()?;
+        Some(read_line::<F>(line))
     }
 }

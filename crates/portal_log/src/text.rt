@@ -1,21 +1,16 @@
 // Lines of a text, and the parts of a line between commas.
 ghost use Rattle.std.specs.Prelude.{◌≡◌, ◌≤◌, length};
 ghost use Rattle.std.specs.Option.{option_map};
+ghost use Rattle.std.specs.Iterator.{YieldsFirstRef, item_count};
 ghost use Rattle.portal_log.specs.Text.{before, lines, parts, four};
-ghost use Rattle.portal_log.specs.Views.{left_lines, left_parts, texts, Gives, GivesLine};
-ghost use Rattle.std.specs.Iterator.{at_most};
+ghost use Rattle.portal_log.specs.Views.{left_lines, left_parts, texts, GivesLine};
 
 // How many bytes stand before the first `stop`; all of them where there is none.
 fn before(bytes: &[u8], stop: u8) -> usize
     ensures value { result ≡ before stop bytes.now }
     ensures within { result ≤ length bytes.now }
 {
-    for (i, b) in bytes.iter().enumerate() {
-        if *b == stop {
-            return i;
-        }
-    }
-    bytes.len()
+    bytes.iter().position(|b| *b == stop).unwrap_or(bytes.len())
 }
 
 // A part of a text: what it says, and how many bytes stand before it.
@@ -47,19 +42,17 @@ impl<'a> Iterator for Lines<'a> {
 
     ghost next_gives = { GivesLine };
 
-    ghost remaining = { λ s. at_most (length (left_lines s)) };
+    ghost remaining = { item_count left_lines };
 
     fn next(&mut self) -> Option<Part<'a>> {
         let place = self.place;
-        let text = self.text;
-        if place >= text.len() {
+        if place >= self.text.len() {
             return None;
         }
-        let rest = &text[place..];
-        let end = before(rest, b'\n');
-        let after = if end < rest.len() { end + 1 } else { end };
-        self.place = place + after;
-        let text = &rest[0..end];
+        let rest = &self.text[place..];
+        let (text, end) = rest.split_at(before(rest, b'\n'));
+        // `end` begins with the LF, where there is one
+        self.place += text.len() + end.len().min(1);
         Some(Part { text, place })
     }
 }
@@ -81,19 +74,15 @@ impl<'a> Parts<'a> {
 impl<'a> Iterator for Parts<'a> {
     type Item = &'a [u8];
 
-    ghost next_gives = { λ s r t. Gives (left_parts s) r (left_parts t) };
+    ghost next_gives = { YieldsFirstRef left_parts };
 
-    ghost remaining = { λ s. at_most (length (left_parts s)) };
+    ghost remaining = { item_count left_parts };
 
     fn next(&mut self) -> Option<&'a [u8]> {
         let rest = self.rest?;
-        let end = before(rest, b',');
-        self.rest = if end < rest.len() {
-            Some(&rest[end + 1..])
-        } else {
-            None
-        };
-        Some(&rest[0..end])
+        let (part, end) = rest.split_at(before(rest, b','));
+        self.rest = end.get(1..);
+        Some(part)
     }
 }
 
@@ -103,8 +92,5 @@ pub(crate) fn four_parts(line: &[u8]) -> Option<(&[u8], &[u8], &[u8], &[u8])>
 {
     let mut parts = Parts::of(line);
     let four = (parts.next()?, parts.next()?, parts.next()?, parts.next()?);
-    match parts.next() {
-        Some(_) => None,
-        None => Some(four),
-    }
+    parts.next().is_none().then_some(four)
 }

@@ -28,7 +28,8 @@ pub(crate) fn refusal_line(
 pub fn head_line(heap: Global, head: Head) -> Result<String, AllocError>
     ensures { IfOk result (λ t. string_bytes t ≡ head_line head) }
 {
-    format!(in heap; "L,{},{},{}\n", head.name.text(), head.l, head.k)
+    format!(in heap; "{head}
+")
 }
 
 // The lines of a block's packets.
