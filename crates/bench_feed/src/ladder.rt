@@ -20,7 +20,7 @@ pub struct Ladder<F> {
 impl<F: SymbolField> Ladder<F> {
     // As many packets as asked for, up to the limit of a feed.
     pub fn new(many: usize, first: Packet<F>, step: Packet<F>) -> Ladder<F>
-        ensures { ladder (alphabet F.Scalar.FiniteField F.FiniteField F.SymbolField) result.left result.rung result.step ≡ ladder (alphabet F.Scalar.FiniteField F.FiniteField F.SymbolField) (min many feed_limit) first step }
+        ensures { ladder (alphabet F.Scalar.FiniteField F.SymbolField) result.left result.rung result.step ≡ ladder (alphabet F.Scalar.FiniteField F.SymbolField) (min many feed_limit) first step }
     {
         Ladder {
             left: many.min(LIMIT),
@@ -33,9 +33,9 @@ impl<F: SymbolField> Ladder<F> {
 impl<F: SymbolField> Feed for Ladder<F> {
     type Item = Packet<F>;
 
-    ghost list = { λ s. ladder (alphabet F.Scalar.FiniteField F.FiniteField F.SymbolField) s.left s.rung s.step };
+    ghost list = { λ s. ladder (alphabet F.Scalar.FiniteField F.SymbolField) s.left s.rung s.step };
 
-    ghost short = { λ s. ladder_short (alphabet F.Scalar.FiniteField F.FiniteField F.SymbolField) s.left s.rung s.step s.ok };
+    ghost short = { λ s. ladder_short (alphabet F.Scalar.FiniteField F.SymbolField) s.left s.rung s.step s.ok };
 
     fn len(&self) -> usize {
         self.left

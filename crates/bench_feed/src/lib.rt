@@ -42,7 +42,7 @@ pub fn take_pile<F: SymbolField, D: Feed<Item = Packet<F>>>(
     place: usize,
     scalar: F::Scalar,
 ) -> Result<Vec<Packet<F>>, AllocError>
-    ensures { IfOk result (λ v. v.items ≡ stirred (alphabet F.Scalar.FiniteField F.FiniteField F.SymbolField) scalar (gapped place (joined (D.list feed.old) (held packets.now)))) }
+    ensures { IfOk result (λ v. v.items ≡ stirred (alphabet F.Scalar.FiniteField F.SymbolField) scalar (gapped place (joined (D.list feed.old) (held packets.now)))) }
 {
     let joined = Join::new(feed, Held::new(packets));
     let mut pile = Stir::new(Gap::new(joined, place), scalar);

@@ -51,14 +51,14 @@ impl<F: FiniteField> CodeRow<F> {
 impl<F: SymbolField> Row for CodeRow<F> {
     type Scalar = F::Scalar;
 
-    ghost rows = { symbol_rows (alphabet F.Scalar.FiniteField F.FiniteField F.SymbolField) };
+    ghost rows = { symbol_rows (alphabet F.Scalar.FiniteField F.SymbolField) };
 
     ghost laws = { symbol_laws (record { scalar_codes = F.Scalar.FiniteField.codes; codes = F.FiniteField.codes; extension = F.SymbolField.extension }) };
 
     ghost narrow = { Prim.search rules };
 
     fn width() -> usize {
-        F::m()
+        F::DEGREE
     }
 
     fn plus(self, other: CodeRow<F>) -> CodeRow<F> {

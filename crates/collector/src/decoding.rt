@@ -19,7 +19,7 @@ use subspace_code::holding::{AsCodes, Holding};
 // The quotient of −Qx by Qy for a pair that vanishes on the packets; absent where Qy is zero.
 fn quotient<F: SymbolField>(k: usize, packets: &[Packet<F>]) -> Option<[u32; PLACES]>
     requires { (0 < k) × ((k ≤ 16) × (length packets.now ≤ 32)) }
-    ensures { Quotient (alphabet F.Scalar.FiniteField F.FiniteField F.SymbolField) k (length packets.now) (Span (packet_rows (alphabet F.Scalar.FiniteField F.FiniteField F.SymbolField)) packets.now) result }
+    ensures { Quotient (alphabet F.Scalar.FiniteField F.SymbolField) k (length packets.now) (Span (packet_rows (alphabet F.Scalar.FiniteField F.SymbolField)) packets.now) result }
 {
     let Pair { mut x, y, .. } = interpolate(k, packets);
     x.negate();
@@ -32,7 +32,7 @@ fn quotient<F: SymbolField>(k: usize, packets: &[Packet<F>]) -> Option<[u32; PLA
 // Writes the symbols of the codes to the first places.
 fn write<F: SymbolField>(codes: &[u32], output: &mut [F])
     requires { length codes.now ≤ length output.old }
-    ensures { output.new ≡ polynomial (alphabet F.Scalar.FiniteField F.FiniteField F.SymbolField) codes.now ++ drop (length codes.now) output.old }
+    ensures { output.new ≡ polynomial (alphabet F.Scalar.FiniteField F.SymbolField) codes.now ++ drop (length codes.now) output.old }
 {
     for (i, code) in codes.iter().enumerate() {
         output[i] = AsCodes::load(*code);
@@ -47,12 +47,12 @@ pub(crate) fn decode<F: SymbolField>(
     packets: &[Packet<F>],
     output: &mut [F],
 ) -> Option<Solved>
-    requires allowed { (0 < k) × ((k ≤ l) × (l ≤ F.SymbolField.m)) }
+    requires allowed { (0 < k) × ((k ≤ l) × (l ≤ F.SymbolField.DEGREE)) }
     requires reach { length packets.now + k ≤ 2 * l }
-    requires headers { Each (HeaderBelow (alphabet F.Scalar.FiniteField F.FiniteField F.SymbolField) l) packets.now }
-    requires dimension { IsDim (packet_rows (alphabet F.Scalar.FiniteField F.FiniteField F.SymbolField)) (Span (packet_rows (alphabet F.Scalar.FiniteField F.FiniteField F.SymbolField)) packets.now) (length packets.now) }
+    requires headers { Each (HeaderBelow (alphabet F.Scalar.FiniteField F.SymbolField) l) packets.now }
+    requires dimension { IsDim (packet_rows (alphabet F.Scalar.FiniteField F.SymbolField)) (Span (packet_rows (alphabet F.Scalar.FiniteField F.SymbolField)) packets.now) (length packets.now) }
     requires room { k ≤ length output.old }
-    ensures { Decodes (alphabet F.Scalar.FiniteField F.FiniteField F.SymbolField) k l (Span (packet_rows (alphabet F.Scalar.FiniteField F.FiniteField F.SymbolField)) packets.now) (length packets.now) output.old output.new result }
+    ensures { Decodes (alphabet F.Scalar.FiniteField F.SymbolField) k l (Span (packet_rows (alphabet F.Scalar.FiniteField F.SymbolField)) packets.now) (length packets.now) output.old output.new result }
 {
     let codes = quotient(k, packets)?;
     let message = &codes[..k];

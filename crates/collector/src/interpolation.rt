@@ -37,7 +37,7 @@ impl<F: SymbolField> Model for Pair<F> {
 impl<F: SymbolField> Pair<F> {
     // Qx(x) + Qy(y).
     fn value(&self, packet: Packet<F>) -> F
-        ensures { result ≡ pair_value (alphabet F.Scalar.FiniteField F.FiniteField F.SymbolField) self.now.pair packet }
+        ensures { result ≡ pair_value (alphabet F.Scalar.FiniteField F.SymbolField) self.now.pair packet }
     {
         self.x.value(packet.x).plus(self.y.value(packet.y))
     }
@@ -45,7 +45,7 @@ impl<F: SymbolField> Pair<F> {
     // a times this pair plus b times the other, in place of this pair.
     fn mix(&mut self, a: F, other: &Pair<F>, b: F)
         requires { (b ≡ F.FiniteField.field.zero) ⊎ (other.now.degree ≤ self.old.degree) }
-        ensures mixes { Mixes (alphabet F.Scalar.FiniteField F.FiniteField F.SymbolField) a self.old.pair b other.now.pair self.new.pair }
+        ensures mixes { Mixes (alphabet F.Scalar.FiniteField F.SymbolField) a self.old.pair b other.now.pair self.new.pair }
         ensures degree { self.new.degree ≡ self.old.degree }
     {
         self.x.mix(a, &other.x, b);
@@ -56,7 +56,7 @@ impl<F: SymbolField> Pair<F> {
     fn raise(&mut self, v: F)
         requires room { self.old.degree + 1 < room }
         requires some { v ≢ F.FiniteField.field.zero }
-        ensures raises { Raises (alphabet F.Scalar.FiniteField F.FiniteField F.SymbolField) v self.old.pair self.new.pair }
+        ensures raises { Raises (alphabet F.Scalar.FiniteField F.SymbolField) v self.old.pair self.new.pair }
         ensures degree { self.new.degree ≡ self.old.degree + 1 }
     {
         let inverse = v.inverse().unwrap();
@@ -86,7 +86,7 @@ impl<F: SymbolField> State<F> {
     // x alone, and y alone.
     fn start(k: usize) -> Self
         requires { 0 < k }
-        ensures { IsStart (alphabet F.Scalar.FiniteField F.FiniteField F.SymbolField) k result }
+        ensures { IsStart (alphabet F.Scalar.FiniteField F.SymbolField) k result }
     {
         State {
             first: Pair {
@@ -112,7 +112,7 @@ impl<F: SymbolField> State<F> {
     // One packet more, on which both pairs vanish after.
     fn next(&mut self, packet: Packet<F>)
         requires { (self.old.first_degree + 1 < room) × (self.old.second_degree + 1 < room) }
-        ensures { Next (alphabet F.Scalar.FiniteField F.FiniteField F.SymbolField) self.old packet self.new }
+        ensures { Next (alphabet F.Scalar.FiniteField F.SymbolField) self.old packet self.new }
     {
         let first = self.first.value(packet);
         let second = self.second.value(packet);
@@ -130,7 +130,7 @@ impl<F: SymbolField> State<F> {
 // A pair that vanishes on the packets, of least weighted degree.
 pub(crate) fn interpolate<F: SymbolField>(k: usize, packets: &[Packet<F>]) -> Pair<F>
     requires { (0 < k) × ((k ≤ 16) × (length packets.now ≤ 32)) }
-    ensures { Interpolates (alphabet F.Scalar.FiniteField F.FiniteField F.SymbolField) k (τ (length packets.now) k) (Span (packet_rows (alphabet F.Scalar.FiniteField F.FiniteField F.SymbolField)) packets.now) result.pair.x result.pair.y }
+    ensures { Interpolates (alphabet F.Scalar.FiniteField F.SymbolField) k (τ (length packets.now) k) (Span (packet_rows (alphabet F.Scalar.FiniteField F.SymbolField)) packets.now) result.pair.x result.pair.y }
 {
     let mut state = State::start(k);
     for packet in packets {

@@ -17,7 +17,7 @@ const COORDINATES: usize = 16;
 
 // y − f(x), as a row.
 fn residual_row<F: SymbolField>(message: &[u32], packet: Packet<F>) -> CodeRow<F>
-    ensures { result ≡ residual (alphabet F.Scalar.FiniteField F.FiniteField F.SymbolField) (polynomial (alphabet F.Scalar.FiniteField F.FiniteField F.SymbolField) message.now) packet }
+    ensures { result ≡ residual (alphabet F.Scalar.FiniteField F.SymbolField) (polynomial (alphabet F.Scalar.FiniteField F.SymbolField) message.now) packet }
 {
     let value: F = evaluate::<F, AsCodes>(message, packet.x);
     CodeRow::new(packet.y.plus(value.negative()))
@@ -25,7 +25,7 @@ fn residual_row<F: SymbolField>(message: &[u32], packet: Packet<F>) -> CodeRow<F
 
 // The dimension of the residuals y − f(x) of the packets.
 pub(crate) fn measure<F: SymbolField>(message: &[u32], packets: &[Packet<F>]) -> usize
-    ensures { IsDim (symbol_rows (alphabet F.Scalar.FiniteField F.FiniteField F.SymbolField)) (Span (symbol_rows (alphabet F.Scalar.FiniteField F.FiniteField F.SymbolField)) (map (residual (alphabet F.Scalar.FiniteField F.FiniteField F.SymbolField) (polynomial (alphabet F.Scalar.FiniteField F.FiniteField F.SymbolField) message.now)) packets.now)) result }
+    ensures { IsDim (symbol_rows (alphabet F.Scalar.FiniteField F.SymbolField)) (Span (symbol_rows (alphabet F.Scalar.FiniteField F.SymbolField)) (map (residual (alphabet F.Scalar.FiniteField F.SymbolField) (polynomial (alphabet F.Scalar.FiniteField F.SymbolField) message.now)) packets.now)) result }
 {
     let mut rows = [CodeRow::new(F::zero()); COORDINATES];
     let mut dimension = 0;

@@ -11,14 +11,14 @@ use packet::Packet;
 impl<F: SymbolField> Row for Packet<F> {
     type Scalar = F::Scalar;
 
-    ghost rows = { packet_rows (alphabet F.Scalar.FiniteField F.FiniteField F.SymbolField) };
+    ghost rows = { packet_rows (alphabet F.Scalar.FiniteField F.SymbolField) };
 
     ghost laws = { packet_laws (record { scalar_codes = F.Scalar.FiniteField.codes; codes = F.FiniteField.codes; extension = F.SymbolField.extension }) };
 
     ghost narrow = { Prim.search rules };
 
     fn width() -> usize {
-        2 * F::m()
+        2 * F::DEGREE
     }
 
     fn plus(self, other: Packet<F>) -> Packet<F> {

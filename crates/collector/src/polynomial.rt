@@ -69,14 +69,14 @@ impl<F: SymbolField> Polynomial<F> {
     }
 
     pub(crate) fn value(&self, x: F) -> F
-        ensures { result ≡ value (alphabet F.Scalar.FiniteField F.FiniteField F.SymbolField) self.now x }
+        ensures { result ≡ value (alphabet F.Scalar.FiniteField F.SymbolField) self.now x }
     {
         evaluate::<F, AsCodes>(self.codes(), x)
     }
 
     // a times this polynomial plus b times the other, in place of this one.
     pub(crate) fn mix(&mut self, a: F, other: &Polynomial<F>, b: F)
-        ensures mixed { (n : ℕ) → at F.FiniteField.field self.new n ≡ mixed (alphabet F.Scalar.FiniteField F.FiniteField F.SymbolField) a self.old b other.now n }
+        ensures mixed { (n : ℕ) → at F.FiniteField.field self.new n ≡ mixed (alphabet F.Scalar.FiniteField F.SymbolField) a self.old b other.now n }
         ensures places { (n : ℕ) → length self.old ≤ n → (b ≡ F.FiniteField.field.zero) ⊎ (length other.now ≤ n) → length self.new ≤ n }
     {
         if !is_zero(b) {
@@ -92,7 +92,7 @@ impl<F: SymbolField> Polynomial<F> {
     // raise(f) + c f in place of this f; zero stays without a coefficient.
     pub(crate) fn shift(&mut self, c: F)
         requires { length self.old < room }
-        ensures shifted { (n : ℕ) → at F.FiniteField.field self.new n ≡ shifted (alphabet F.Scalar.FiniteField F.FiniteField F.SymbolField) c self.old n }
+        ensures shifted { (n : ℕ) → at F.FiniteField.field self.new n ≡ shifted (alphabet F.Scalar.FiniteField F.SymbolField) c self.old n }
         ensures places { length self.new ≤ length self.old + 1 }
     {
         if self.places == 0 {

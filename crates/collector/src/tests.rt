@@ -16,7 +16,7 @@ fn element<F: FiniteField>(code: u32) -> Result<F, Fail> {
 fn reduce<F: SymbolField>(rows: &mut [Packet<F>], packets: &[Packet<F>]) -> usize {
     clear(rows);
     let mut dimension = 0;
-    let m = F::m();
+    let m = F::DEGREE;
     if rows.len() < m + m {
         return 0;
     }

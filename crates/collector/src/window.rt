@@ -42,10 +42,10 @@ fn all_zero<R: Row>(rows: &[R]) -> bool
 
 // q^ℓ.
 pub(crate) fn header_limit<F: SymbolField>(l: usize) -> u32
-    requires { l ≤ F.SymbolField.m }
-    ensures { result ≡ F.SymbolField.q ^ l }
+    requires { l ≤ F.SymbolField.DEGREE }
+    ensures { result ≡ F.SymbolField.ORDER ^ l }
 {
-    F::q().pow(l as u32)
+    F::ORDER.pow(l as u32)
 }
 
 // Whether the x code of every packet is below the limit.
@@ -57,8 +57,8 @@ fn headers_below<F: SymbolField>(packets: &[Packet<F>], limit: u32) -> bool
 
 // Whether the packets are a window of this dimension with x codes below q^ℓ.
 pub(crate) fn is_window<F: SymbolField>(packets: &[Packet<F>], dim: usize, l: usize) -> bool
-    requires { l ≤ F.SymbolField.m }
-    ensures { (result ≡ true) ↔ PacketWindow (alphabet F.Scalar.FiniteField F.FiniteField F.SymbolField) l dim packets.now }
+    requires { l ≤ F.SymbolField.DEGREE }
+    ensures { (result ≡ true) ↔ PacketWindow (alphabet F.Scalar.FiniteField F.SymbolField) l dim packets.now }
 {
     let Some((first, rest)) = packets.split_at_checked(dim) else {
         return false;

@@ -31,7 +31,7 @@ fn relayed<F: SymbolField, D: Feed<Item = Packet<F>> + Drop>(
     heap: Global,
     feed: D,
 ) -> Result<Vec<Packet<F>>, AllocError>
-    ensures { IfOk result (λ v. v.items ≡ stirred (alphabet F.Scalar.FiniteField F.FiniteField F.SymbolField) F.Scalar.FiniteField.field.one (joined (gapped 0 (D.list feed)) (held (record { x = F.FiniteField.field.one; y = F.FiniteField.field.one } ∷ [])))) }
+    ensures { IfOk result (λ v. v.items ≡ stirred (alphabet F.Scalar.FiniteField F.SymbolField) F.Scalar.FiniteField.field.one (joined (gapped 0 (D.list feed)) (held (record { x = F.FiniteField.field.one; y = F.FiniteField.field.one } ∷ [])))) }
 {
     let mut other = Vec::new(heap);
     other.push(Packet {

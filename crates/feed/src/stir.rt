@@ -19,8 +19,8 @@ pub struct Stir<F: SymbolField, D> {
 
 impl<F: SymbolField, D: Feed<Item = Packet<F>>> Stir<F, D> {
     pub fn new(lower: D, scalar: F::Scalar) -> Stir<F, D>
-        ensures list { stir_list (alphabet F.Scalar.FiniteField F.FiniteField F.SymbolField) D.list result ≡ stirred (alphabet F.Scalar.FiniteField F.FiniteField F.SymbolField) scalar (D.list lower) }
-        ensures stirs { Stirs (alphabet F.Scalar.FiniteField F.FiniteField F.SymbolField) scalar (D.list lower) (stir_list (alphabet F.Scalar.FiniteField F.FiniteField F.SymbolField) D.list result) }
+        ensures list { stir_list (alphabet F.Scalar.FiniteField F.SymbolField) D.list result ≡ stirred (alphabet F.Scalar.FiniteField F.SymbolField) scalar (D.list lower) }
+        ensures stirs { Stirs (alphabet F.Scalar.FiniteField F.SymbolField) scalar (D.list lower) (stir_list (alphabet F.Scalar.FiniteField F.SymbolField) D.list result) }
         ensures lower { result.lower ≡ lower }
     {
         Stir {
@@ -34,9 +34,9 @@ impl<F: SymbolField, D: Feed<Item = Packet<F>>> Stir<F, D> {
 impl<F: SymbolField, D: Feed<Item = Packet<F>>> Feed for Stir<F, D> {
     type Item = Packet<F>;
 
-    ghost list = { stir_list (alphabet F.Scalar.FiniteField F.FiniteField F.SymbolField) D.Feed.list };
+    ghost list = { stir_list (alphabet F.Scalar.FiniteField F.SymbolField) D.Feed.list };
 
-    ghost short = { λ s. stir_short (alphabet F.Scalar.FiniteField F.FiniteField F.SymbolField) s.scalar s.last (D.Feed.list s.lower) (D.Feed.short s.lower) };
+    ghost short = { λ s. stir_short (alphabet F.Scalar.FiniteField F.SymbolField) s.scalar s.last (D.Feed.list s.lower) (D.Feed.short s.lower) };
 
     ghost lenders = { λ s. D.Feed.lenders s.lower };
 

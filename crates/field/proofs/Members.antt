@@ -4,13 +4,13 @@ use Rattle.field.specs.declared.FiniteField.{Ghosts as FieldMembers}
 use Rattle.field.specs.declared.SymbolField.{Ghosts as OwnMembers}
 
 abbrev pub alphabet : {K S : Type 0} → FieldMembers K → FieldMembers S → OwnMembers S K → Alphabet K S
-alphabet scalars symbols own = alphabet_all scalars symbols (record {
+alphabet scalars symbols own = alphabet_all scalars (record {
   field = symbols.field;
   size = symbols.size;
   code = symbols.code;
   element = symbols.element;
-  q = own.q;
-  m = own.m;
+  ORDER = own.ORDER;
+  DEGREE = own.DEGREE;
   embed = own.embed;
   coord = own.coord;
   frobenius = own.frobenius;

@@ -28,23 +28,23 @@ pub record Alphabet (K S : Type 0) : Type 0 where
 
 abbrev pub SymbolMembers : Type 0 → Type 0 → Type 0
 SymbolMembers S K =
-    record { field : Field S; size : ℕ; code : S → ℕ; element : ℕ → S; q : ℕ; m : ℕ; embed : K → S; coord : S → ℕ → K; frobenius : S → S }
+    record { field : Field S; size : ℕ; code : S → ℕ; element : ℕ → S; ORDER : ℕ; DEGREE : ℕ; embed : K → S; coord : S → ℕ → K; frobenius : S → S }
 
-abbrev pub alphabet : {K S : Type 0} → FieldMembers K → FieldMembers S → SymbolMembers S K → Alphabet K S
-alphabet scalars symbols over = record {
+abbrev pub alphabet : {K S : Type 0} → FieldMembers K → SymbolMembers S K → Alphabet K S
+alphabet scalars symbols = record {
   scalars = scalars.field;
   symbols = symbols.field;
-  q = over.q;
-  m = over.m;
+  q = symbols.ORDER;
+  m = symbols.DEGREE;
   scalar_size = scalars.size;
   scalar_code = scalars.code;
   scalar_element = scalars.element;
   size = symbols.size;
   code = symbols.code;
   element = symbols.element;
-  embed = over.embed;
-  coord = over.coord;
-  frobenius = over.frobenius;
+  embed = symbols.embed;
+  coord = symbols.coord;
+  frobenius = symbols.frobenius;
 }
 
 pub record Lawful {K S : Type 0} (A : Alphabet K S) : Type 0 where

@@ -7,12 +7,10 @@ ghost use Rattle.field.specs.Octet.{octets, octet_field};
 ghost use Rattle.field.specs.Word.{words, word_field};
 ghost use Rattle.field.specs.Nibble.{nibbles, nibble_field};
 
-pub fn by_codes() -> u8
+pub fn by_codes()
     ensures bit { ByCodes bits bit_product bit_field }
     ensures hex { ByCodes hex_digits hex_product hex_field }
     ensures octet { ByCodes octets octet_product octet_field }
     ensures word { ByCodes words word_product word_field }
     ensures nibble { ByCodes nibbles nibble_product nibble_field }
-{
-    0
-}
+{}

@@ -58,7 +58,6 @@ pub trait FiniteField: Copy {
 }
 
 // A finite field over a smaller one, its scalars: each symbol has m coordinates, the digits of its code in base q.
-// Generic code asks for the constants by `q` and `m`, whose promises tie them to the laws.
 pub trait SymbolField: FiniteField {
     type Scalar: FiniteField;
 
@@ -68,21 +67,15 @@ pub trait SymbolField: FiniteField {
     // the number of scalars in a symbol, m
     const DEGREE: usize;
 
-    ghost q: { ℕ };
+    ghost ORDER: { ℕ };
 
-    ghost m: { ℕ };
+    ghost DEGREE: { ℕ };
 
     ghost embed: { Self.Scalar → Self };
 
     ghost coord: { Self → ℕ → Self.Scalar };
 
     ghost frobenius: { Self → Self };
-
-    fn q() -> u32
-        ensures { result ≡ q };
-
-    fn m() -> usize
-        ensures { result ≡ m };
 
     // The q-th power.
     fn raise(self) -> Self
@@ -91,12 +84,12 @@ pub trait SymbolField: FiniteField {
     // The coordinate at place i, the code's digit there; zero from m on.
     fn coordinate(self, i: usize) -> Self::Scalar
         ensures value { result ≡ coord self i }
-        ensures digit { Self.Scalar.FiniteField.code result ≡ Self.FiniteField.code self / q ^ i % q };
+        ensures digit { Self.Scalar.FiniteField.code result ≡ Self.FiniteField.code self / ORDER ^ i % ORDER };
 
     // The symbol of a scalar: it has the scalar's code.
     fn from_scalar(s: Self::Scalar) -> Self
         ensures value { result ≡ embed s }
         ensures code { Self.FiniteField.code result ≡ Self.Scalar.FiniteField.code s };
 
-    ghost extension: { Extension Self.Scalar.FiniteField.field Self.FiniteField.field Self.Scalar.FiniteField.size Self.FiniteField.size q m Self.Scalar.FiniteField.code Self.FiniteField.code embed coord frobenius };
+    ghost extension: { Extension Self.Scalar.FiniteField.field Self.FiniteField.field Self.Scalar.FiniteField.size Self.FiniteField.size ORDER DEGREE Self.Scalar.FiniteField.code Self.FiniteField.code embed coord frobenius };
 }

@@ -14,7 +14,7 @@ use std::env;
 fn size<F: SymbolField>() -> u32
     ensures { result ≡ F.q ^ F.m }
 {
-    F::q().pow(F::m() as u32)
+    F::ORDER.pow(F::DEGREE as u32)
 }
 
 // x becomes the raise of x y + y, for one pseudo-random y after the other.

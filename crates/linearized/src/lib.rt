@@ -3,176 +3,118 @@
 
 ghost use Rattle.linearized.specs.Theorems.{ValuesLinear, CountedLeast, KernelBound, DivisionStart, DivisionCoefficient, DivisionStepKept, DivisionEnd, DivisionExists, DivisionUnique, InterpolationStart, InterpolationStep, InterpolationNext, InterpolationEnd, InterpolationExists, HeadersSpanned, GraphSpanned, CodewordSpanned, DistanceShared, DistanceExists, DistanceFaults, ResidualRank, SharedMeasured, WithinMeasured, WithinReach, MinimumDistance, CodewordWithin, DecodingExact, DecodingUnique, DecodingMeasured};
 
-pub fn value_laws<K, S>() -> u8
+pub fn value_laws<K, S>()
     ensures { ValuesLinear K S }
-{
-    0
-}
+{}
 
-pub fn counted_least<S>() -> u8
+pub fn counted_least<S>()
     ensures { CountedLeast S }
-{
-    0
-}
+{}
 
-pub fn kernel_bound<K, S>() -> u8
+pub fn kernel_bound<K, S>()
     ensures { KernelBound K S }
-{
-    0
-}
+{}
 
-pub fn division_start<K, S>() -> u8
+pub fn division_start<K, S>()
     ensures { DivisionStart K S }
-{
-    0
-}
+{}
 
-pub fn division_coefficient<K, S>() -> u8
+pub fn division_coefficient<K, S>()
     ensures { DivisionCoefficient K S }
-{
-    0
-}
+{}
 
-pub fn division_step<K, S>() -> u8
+pub fn division_step<K, S>()
     ensures { DivisionStepKept K S }
-{
-    0
-}
+{}
 
-pub fn division_end<K, S>() -> u8
+pub fn division_end<K, S>()
     ensures { DivisionEnd K S }
-{
-    0
-}
+{}
 
-pub fn division_exists<K, S>() -> u8
+pub fn division_exists<K, S>()
     ensures { DivisionExists K S }
-{
-    0
-}
+{}
 
-pub fn division_unique<K, S>() -> u8
+pub fn division_unique<K, S>()
     ensures { DivisionUnique K S }
-{
-    0
-}
+{}
 
-pub fn interpolation_start<K, S>() -> u8
+pub fn interpolation_start<K, S>()
     ensures { InterpolationStart K S }
-{
-    0
-}
+{}
 
-pub fn interpolation_step<K, S>() -> u8
+pub fn interpolation_step<K, S>()
     ensures { InterpolationStep K S }
-{
-    0
-}
+{}
 
-pub fn interpolation_next<K, S>() -> u8
+pub fn interpolation_next<K, S>()
     ensures { InterpolationNext K S }
-{
-    0
-}
+{}
 
-pub fn interpolation_end<K, S>() -> u8
+pub fn interpolation_end<K, S>()
     ensures { InterpolationEnd K S }
-{
-    0
-}
+{}
 
-pub fn interpolation_exists<K, S>() -> u8
+pub fn interpolation_exists<K, S>()
     ensures { InterpolationExists K S }
-{
-    0
-}
+{}
 
-pub fn headers_spanned<K, S>() -> u8
+pub fn headers_spanned<K, S>()
     ensures { HeadersSpanned K S }
-{
-    0
-}
+{}
 
-pub fn graph_spanned<K, S>() -> u8
+pub fn graph_spanned<K, S>()
     ensures { GraphSpanned K S }
-{
-    0
-}
+{}
 
-pub fn codeword_spanned<K, S>() -> u8
+pub fn codeword_spanned<K, S>()
     ensures { CodewordSpanned K S }
-{
-    0
-}
+{}
 
-pub fn distance_shared<K, V>() -> u8
+pub fn distance_shared<K, V>()
     ensures { DistanceShared K V }
-{
-    0
-}
+{}
 
-pub fn distance_exists<K, V>() -> u8
+pub fn distance_exists<K, V>()
     ensures { DistanceExists K V }
-{
-    0
-}
+{}
 
-pub fn distance_faults<K, S>() -> u8
+pub fn distance_faults<K, S>()
     ensures { DistanceFaults K S }
-{
-    0
-}
+{}
 
-pub fn residual_rank<K, S>() -> u8
+pub fn residual_rank<K, S>()
     ensures { ResidualRank K S }
-{
-    0
-}
+{}
 
-pub fn shared_measured<K, S>() -> u8
+pub fn shared_measured<K, S>()
     ensures { SharedMeasured K S }
-{
-    0
-}
+{}
 
-pub fn within_measured<K, S>() -> u8
+pub fn within_measured<K, S>()
     ensures { WithinMeasured K S }
-{
-    0
-}
+{}
 
-pub fn within_reach<K, S>() -> u8
+pub fn within_reach<K, S>()
     ensures { WithinReach K S }
-{
-    0
-}
+{}
 
-pub fn minimum_distance<K, S>() -> u8
+pub fn minimum_distance<K, S>()
     ensures { MinimumDistance K S }
-{
-    0
-}
+{}
 
-pub fn codeword_within<K, S>() -> u8
+pub fn codeword_within<K, S>()
     ensures { CodewordWithin K S }
-{
-    0
-}
+{}
 
-pub fn decoding_exact<K, S>() -> u8
+pub fn decoding_exact<K, S>()
     ensures { DecodingExact K S }
-{
-    0
-}
+{}
 
-pub fn decoding_unique<K, S>() -> u8
+pub fn decoding_unique<K, S>()
     ensures { DecodingUnique K S }
-{
-    0
-}
+{}
 
-pub fn decoding_measured<K, S>() -> u8
+pub fn decoding_measured<K, S>()
     ensures { DecodingMeasured K S }
-{
-    0
-}
+{}

@@ -25,14 +25,14 @@ mod tests;
 
 // Whether a first line was read, and names the field F.
 fn names<F: LogField>(head: Option<Head>) -> bool
-    ensures { result ≡ names F.LogField.name head }
+    ensures { result ≡ names F.LogField.NAME head }
 {
-    head.is_some_and(|head| head.name == F::name())
+    head.is_some_and(|head| head.name == F::NAME)
 }
 
 // The packet of a packet line with this number.
 fn with_number<F: LogField>(number: u8, line: Line<'_>) -> Option<Packet<F>>
-    ensures { result ≡ with_number (alphabet F.Scalar.FiniteField F.FiniteField F.SymbolField) F.LogField.name number (shown line.entry) }
+    ensures { result ≡ with_number (alphabet F.Scalar.FiniteField F.SymbolField) F.LogField.NAME number (shown line.entry) }
 {
     let Line::Packet {
         number: part,
@@ -57,7 +57,7 @@ pub struct LogFeed<'a, F> {
 impl<'a, F: LogField> LogFeed<'a, F> {
     // The packets of a number in a log in the field F; refusals come in the order of their numbers.
     pub fn new(log: &'a [u8], number: u8) -> Result<LogFeed<'a, F>, Refusal>
-        ensures { result_map_both (λ s. fed (alphabet F.Scalar.FiniteField F.FiniteField F.SymbolField) F.LogField.name s.number s.reader) (λ e. e) result ≡ answered (feed_refusal F.LogField.name number log.now) (log_packets (alphabet F.Scalar.FiniteField F.FiniteField F.SymbolField) F.LogField.name number log.now) }
+        ensures { result_map_both (λ s. fed (alphabet F.Scalar.FiniteField F.SymbolField) F.LogField.NAME s.number s.reader) (λ e. e) result ≡ answered (feed_refusal F.LogField.NAME number log.now) (log_packets (alphabet F.Scalar.FiniteField F.SymbolField) F.LogField.NAME number log.now) }
     {
         if number > 7 {
             return Err(Refusal::BlockNumber);
@@ -77,9 +77,9 @@ impl<'a, F: LogField> LogFeed<'a, F> {
 impl<'a, F: LogField> Feed for LogFeed<'a, F> {
     type Item = Packet<F>;
 
-    ghost list = { λ s. fed (alphabet F.Scalar.FiniteField F.FiniteField F.SymbolField) F.LogField.name s.number s.reader };
+    ghost list = { λ s. fed (alphabet F.Scalar.FiniteField F.SymbolField) F.LogField.NAME s.number s.reader };
 
-    ghost short = { λ s. fed_short (alphabet F.Scalar.FiniteField F.FiniteField F.SymbolField) F.LogField.name s.number s.reader s.short };
+    ghost short = { λ s. fed_short (alphabet F.Scalar.FiniteField F.SymbolField) F.LogField.NAME s.number s.reader s.short };
 
     fn len(&self) -> usize {
         self.reader

@@ -5,8 +5,6 @@ ghost use Rattle.packet.specs.Headers.{HeadersBound};
 use field::{FiniteField, SymbolField};
 
 // Packets with x codes below q^ℓ span packets with such codes only, in dimension at most ℓ + m.
-pub fn headers_bound<F: SymbolField>() -> u8
-    ensures { HeadersBound (alphabet F.Scalar.FiniteField F.FiniteField F.SymbolField) }
-{
-    0
-}
+pub fn headers_bound<F: SymbolField>()
+    ensures { HeadersBound (alphabet F.Scalar.FiniteField F.SymbolField) }
+{}

@@ -8,14 +8,14 @@ use field::{FiniteField, SymbolField};
 
 impl<F: SymbolField> Packet<F> {
     pub fn zero() -> Packet<F>
-        ensures { result ≡ packet_zero (alphabet F.Scalar.FiniteField F.FiniteField F.SymbolField) }
+        ensures { result ≡ packet_zero (alphabet F.Scalar.FiniteField F.SymbolField) }
     {
         let zero = F::zero();
         Packet { x: zero, y: zero }
     }
 
     pub fn plus(self, other: Packet<F>) -> Packet<F>
-        ensures { result ≡ packet_sum (alphabet F.Scalar.FiniteField F.FiniteField F.SymbolField) self other }
+        ensures { result ≡ packet_sum (alphabet F.Scalar.FiniteField F.SymbolField) self other }
     {
         Packet {
             x: self.x.plus(other.x),
@@ -25,7 +25,7 @@ impl<F: SymbolField> Packet<F> {
 
     // Both symbols times the scalar.
     pub fn scaled(self, scalar: F::Scalar) -> Packet<F>
-        ensures { result ≡ packet_multiple (alphabet F.Scalar.FiniteField F.FiniteField F.SymbolField) scalar self }
+        ensures { result ≡ packet_multiple (alphabet F.Scalar.FiniteField F.SymbolField) scalar self }
     {
         let factor = F::from_scalar(scalar);
         Packet {
@@ -36,9 +36,9 @@ impl<F: SymbolField> Packet<F> {
 
     // The coordinates of x, then those of y; zero from 2m on.
     pub fn coordinate(self, i: usize) -> F::Scalar
-        ensures { result ≡ packet_coord (alphabet F.Scalar.FiniteField F.FiniteField F.SymbolField) self i }
+        ensures { result ≡ packet_coord (alphabet F.Scalar.FiniteField F.SymbolField) self i }
     {
-        let m = F::m();
+        let m = F::DEGREE;
         if i < m {
             self.x.coordinate(i)
         } else {

@@ -12,9 +12,9 @@ use std::fmt;
 
 // The symbol of a code's text.
 pub fn read_symbol<F: LogField>(part: &[u8]) -> Option<F>
-    ensures { result ≡ symbol (alphabet F.Scalar.FiniteField F.FiniteField F.SymbolField) F.LogField.name part.now }
+    ensures { result ≡ symbol (alphabet F.Scalar.FiniteField F.SymbolField) F.LogField.NAME part.now }
 {
-    if part.len() != F::name().digits() {
+    if part.len() != F::NAME.digits() {
         return None;
     }
     F::from_code(hex_value(part).ok()?)
@@ -25,11 +25,11 @@ pub fn read_symbol<F: LogField>(part: &[u8]) -> Option<F>
 pub struct Code<F>(pub F);
 
 impl<F: LogField> fmt::Display for Code<F> {
-    ghost output = { λ c. Some (hex (digits F.LogField.name) (F.FiniteField.code c.0)) };
+    ghost output = { λ c. Some (hex (digits F.LogField.NAME) (F.FiniteField.code c.0)) };
 
     fn fmt<W: fmt::Write>(&self, f: &mut fmt::Formatter<W>) -> fmt::Result {
         let code = self.0.code();
-        for place in (0..F::name().digits()).rev() {
+        for place in (0..F::NAME.digits()).rev() {
             let digit = (code >> (4 * place)) % 16;
             write!(f, "{digit:X}")?;
         }

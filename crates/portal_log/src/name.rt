@@ -56,32 +56,25 @@ impl fmt::Display for FieldName {
 
 // A symbol field that logs can be in.
 pub trait LogField: SymbolField {
-    ghost name: { FieldName };
+    const NAME: FieldName;
 
-    fn name() -> FieldName
-        ensures { result ≡ name };
+    ghost NAME: { FieldName };
 }
 
 impl LogField for Octet {
-    ghost name = { FieldName.Octet };
+    const NAME: FieldName = FieldName::Octet;
 
-    fn name() -> FieldName {
-        FieldName::Octet
-    }
+    ghost NAME = { FieldName.Octet };
 }
 
 impl LogField for Word {
-    ghost name = { FieldName.Word };
+    const NAME: FieldName = FieldName::Word;
 
-    fn name() -> FieldName {
-        FieldName::Word
-    }
+    ghost NAME = { FieldName.Word };
 }
 
 impl LogField for Nibble {
-    ghost name = { FieldName.Nibble };
+    const NAME: FieldName = FieldName::Nibble;
 
-    fn name() -> FieldName {
-        FieldName::Nibble
-    }
+    ghost NAME = { FieldName.Nibble };
 }

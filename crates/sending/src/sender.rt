@@ -25,15 +25,15 @@ use subspace_code::encoding::encode;
 pub(crate) struct Sender<F: SymbolField> {
     head: Head,
     field: PhantomData<F>,
-    ghost fits: { fits head.k head.l F.SymbolField.m ≡ true },
+    ghost fits: { fits head.k head.l F.SymbolField.DEGREE ≡ true },
 }
 
 impl<F: LogField> Sender<F> {
     // None where the parameters do not fit.
     pub(crate) fn of(head: Head) -> Option<Sender<F>>
-        ensures { MatchOption result (fits head.k head.l F.SymbolField.m ≡ false) (λ s. s.head ≡ head) }
+        ensures { MatchOption result (fits head.k head.l F.SymbolField.DEGREE ≡ false) (λ s. s.head ≡ head) }
     {
-        if !head.fits(F::m()) {
+        if !head.fits(F::DEGREE) {
             return None;
         }
         let field = PhantomData;
@@ -42,7 +42,7 @@ impl<F: LogField> Sender<F> {
 
     // The lines of a block's packets.
     fn block_lines(&self, heap: Global, block: &Block<F>) -> Result<String, Fault>
-        ensures { Answers string_bytes result (block_text (alphabet F.Scalar.FiniteField F.FiniteField F.SymbolField) F.LogField.name self.now.head.k self.now.head.l (held block.now)) }
+        ensures { Answers string_bytes result (block_text (alphabet F.Scalar.FiniteField F.SymbolField) F.LogField.NAME self.now.head.k self.now.head.l (held block.now)) }
     {
         let Head { k, l, .. } = self.head;
         let mut packets = vec![in heap; Packet::zero(); l]?;
@@ -52,7 +52,7 @@ impl<F: LogField> Sender<F> {
 
     // The lines that come of a block line.
     fn line_text(&self, heap: Global, line: &[u8]) -> Result<String, Fault>
-        ensures { Answers string_bytes result (and_then (block_of (alphabet F.Scalar.FiniteField F.FiniteField F.SymbolField) F.LogField.name (parts line.now)) (block_text (alphabet F.Scalar.FiniteField F.FiniteField F.SymbolField) F.LogField.name self.now.head.k self.now.head.l)) }
+        ensures { Answers string_bytes result (and_then (block_of (alphabet F.Scalar.FiniteField F.SymbolField) F.LogField.NAME (parts line.now)) (block_text (alphabet F.Scalar.FiniteField F.SymbolField) F.LogField.NAME self.now.head.k self.now.head.l)) }
     {
         let block = Block::read(heap, line)?;
         self.block_lines(heap, &block)
@@ -65,7 +65,7 @@ impl<F: LogField> Sender<F> {
         lines: Lines<'_>,
         mut text: String,
     ) -> Result<String, AllocError>
-        ensures { IfOk result (λ t. string_bytes t ≡ printed (string_bytes text) (blocks_text (alphabet F.Scalar.FiniteField F.FiniteField F.SymbolField) F.LogField.name self.now.head.k self.now.head.l 2 (left_lines lines.entry))) }
+        ensures { IfOk result (λ t. string_bytes t ≡ printed (string_bytes text) (blocks_text (alphabet F.Scalar.FiniteField F.SymbolField) F.LogField.NAME self.now.head.k self.now.head.l 2 (left_lines lines.entry))) }
     {
         for (i, line) in lines.enumerate() {
             match self.line_text(heap, line.text) {

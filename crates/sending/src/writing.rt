@@ -28,8 +28,7 @@ pub(crate) fn refusal_line(
 pub fn head_line(heap: Global, head: Head) -> Result<String, AllocError>
     ensures { IfOk result (λ t. string_bytes t ≡ head_line head) }
 {
-    format!(in heap; "{head}
-")
+    format!(in heap; "{head}\n")
 }
 
 // The lines of a block's packets.
@@ -38,7 +37,7 @@ pub fn packet_lines<F: LogField>(
     number: u8,
     packets: &[Packet<F>],
 ) -> Result<String, AllocError>
-    ensures { IfOk result (λ t. string_bytes t ≡ flat_map (packet_line (alphabet F.Scalar.FiniteField F.FiniteField F.SymbolField) F.LogField.name number) packets.now) }
+    ensures { IfOk result (λ t. string_bytes t ≡ flat_map (packet_line (alphabet F.Scalar.FiniteField F.SymbolField) F.LogField.NAME number) packets.now) }
 {
     let mut text = String::new(heap);
     for packet in packets {

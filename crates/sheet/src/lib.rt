@@ -34,10 +34,10 @@ use std::marker::PhantomData;
 fn sheet_in<F: LogField>(heap: Global, head: Head, log: &[u8]) -> Result<String, AllocError>
     requires short { length log.now ≤ log_limit }
     requires first { first_head (lines log.now) ≡ Some head }
-    requires field { head.name ≡ F.LogField.name }
-    ensures { IfOk result (λ t. SheetFits (alphabet F.Scalar.FiniteField F.FiniteField F.SymbolField) F.LogField.name (fits head.k head.l F.SymbolField.m) head log.now (string_bytes t)) }
+    requires field { head.name ≡ F.LogField.NAME }
+    ensures { IfOk result (λ t. SheetFits (alphabet F.Scalar.FiniteField F.SymbolField) F.LogField.NAME (fits head.k head.l F.SymbolField.DEGREE) head log.now (string_bytes t)) }
 {
-    if !head.fits(F::m()) {
+    if !head.fits(F::DEGREE) {
         return refused_text(heap, Refusal::Parameters);
     }
     let log = Log::<F> {

@@ -18,6 +18,6 @@ pub(crate) struct Log<'a, F: LogField> {
     pub(crate) field: PhantomData<F>,
     ghost short: { length bytes.now ≤ log_limit },
     ghost first: { first_head (lines bytes.now) ≡ Some head },
-    ghost named: { head.name ≡ F.LogField.name },
-    ghost fits: { fits head.k head.l F.SymbolField.m ≡ true },
+    ghost named: { head.name ≡ F.LogField.NAME },
+    ghost fits: { fits head.k head.l F.SymbolField.DEGREE ≡ true },
 }

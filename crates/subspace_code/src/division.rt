@@ -36,11 +36,11 @@ fn raised<F: SymbolField>(x: F, n: usize) -> F
 // The lead of a divisor that is not zero.
 fn lead_of<F: SymbolField, H: Holding<F>>(divisor: &[H::Slot]) -> Lead<F>
     requires { 0 < counted F.FiniteField.field (map H.Holding.held divisor.now) }
-    ensures { Leading (alphabet F.Scalar.FiniteField F.FiniteField F.SymbolField) (map H.Holding.held divisor.now) result }
+    ensures { Leading (alphabet F.Scalar.FiniteField F.SymbolField) (map H.Holding.held divisor.now) result }
 {
     let place = counted_length::<F, H>(divisor) - 1;
     let inverse = H::load(divisor[place]).inverse().unwrap();
-    let m = F::m();
+    let m = F::DEGREE;
     Lead {
         place,
         inverse,
@@ -56,7 +56,7 @@ fn take_off<F: SymbolField, H: Holding<F>>(
     p: usize,
 )
     requires { p + length divisor.now ≤ length remainder.old }
-    ensures { TakenOff (alphabet F.Scalar.FiniteField F.FiniteField F.SymbolField) (map H.Holding.held divisor.now) (map H.Holding.held remainder.old) (map H.Holding.held remainder.new) c p (length divisor.now) }
+    ensures { TakenOff (alphabet F.Scalar.FiniteField F.SymbolField) (map H.Holding.held divisor.now) (map H.Holding.held remainder.old) (map H.Holding.held remainder.new) c p (length divisor.now) }
 {
     let mut power = c;
     for (i, slot) in divisor.iter().enumerate() {
@@ -74,8 +74,8 @@ fn step<F: SymbolField, H: Holding<F>>(
     remainder: &mut [H::Slot],
     p: usize,
 )
-    requires { (Leading (alphabet F.Scalar.FiniteField F.FiniteField F.SymbolField) (map H.Holding.held divisor.now) lead) × ((p < length quotient.old) × (p + lead.place < length remainder.old)) }
-    ensures { DivisionStep (alphabet F.Scalar.FiniteField F.FiniteField F.SymbolField) (map H.Holding.held divisor.now) (map H.Holding.held quotient.old) (map H.Holding.held remainder.old) (map H.Holding.held quotient.new) (map H.Holding.held remainder.new) lead.place p }
+    requires { (Leading (alphabet F.Scalar.FiniteField F.SymbolField) (map H.Holding.held divisor.now) lead) × ((p < length quotient.old) × (p + lead.place < length remainder.old)) }
+    ensures { DivisionStep (alphabet F.Scalar.FiniteField F.SymbolField) (map H.Holding.held divisor.now) (map H.Holding.held quotient.old) (map H.Holding.held remainder.old) (map H.Holding.held quotient.new) (map H.Holding.held remainder.new) lead.place p }
 {
     let top = H::load(remainder[p + lead.place]);
     let c = raised(lead.inverse.times(top), lead.raises);
@@ -90,7 +90,7 @@ fn divide_in_place<F: SymbolField, H: Holding<F>>(
     remainder: &mut [H::Slot],
 )
     requires { (0 < counted F.FiniteField.field (map H.Holding.held divisor.now)) × (counted F.FiniteField.field (map H.Holding.held remainder.old) < length quotient.old + counted F.FiniteField.field (map H.Holding.held divisor.now)) }
-    ensures { Divided (alphabet F.Scalar.FiniteField F.FiniteField F.SymbolField) (map H.Holding.held remainder.old) (map H.Holding.held divisor.now) (map H.Holding.held quotient.new) (map H.Holding.held remainder.new) }
+    ensures { Divided (alphabet F.Scalar.FiniteField F.SymbolField) (map H.Holding.held remainder.old) (map H.Holding.held divisor.now) (map H.Holding.held quotient.new) (map H.Holding.held remainder.new) }
 {
     let lead = lead_of::<F, H>(divisor);
     clear::<F, H>(quotient);
@@ -132,7 +132,7 @@ pub fn divide_held<F: SymbolField, H: Holding<F>>(
     quotient: &mut [H::Slot],
     remainder: &mut [H::Slot],
 ) -> Result<(usize, usize), Refusal>
-    ensures answer { DivideAnswer (alphabet F.Scalar.FiniteField F.FiniteField F.SymbolField) (map H.Holding.held dividend.now) (map H.Holding.held divisor.now) (map H.Holding.held quotient.old) (map H.Holding.held remainder.old) (map H.Holding.held quotient.new) (map H.Holding.held remainder.new) result }
+    ensures answer { DivideAnswer (alphabet F.Scalar.FiniteField F.SymbolField) (map H.Holding.held dividend.now) (map H.Holding.held divisor.now) (map H.Holding.held quotient.old) (map H.Holding.held remainder.old) (map H.Holding.held quotient.new) (map H.Holding.held remainder.new) result }
     ensures refused { (e : RefusalOf) → result ≡ Err e → (quotient.new ≡ quotient.old) × (remainder.new ≡ remainder.old) }
 {
     check(
@@ -155,7 +155,7 @@ pub fn divide<F: SymbolField>(
     quotient: &mut [F],
     remainder: &mut [F],
 ) -> Result<(usize, usize), Refusal>
-    ensures { DivideAnswer (alphabet F.Scalar.FiniteField F.FiniteField F.SymbolField) dividend.now divisor.now quotient.old remainder.old quotient.new remainder.new result }
+    ensures { DivideAnswer (alphabet F.Scalar.FiniteField F.SymbolField) dividend.now divisor.now quotient.old remainder.old quotient.new remainder.new result }
 {
     divide_held::<F, AsSymbols>(dividend, divisor, quotient, remainder)
 }

@@ -30,10 +30,10 @@ fn check(m: usize, k: usize, l: usize, symbols: usize, places: usize) -> Result<
 
 // Writes the packets of a block, as many as there are places.
 fn write_packets<F: SymbolField>(message: &[F], output: &mut [Packet<F>])
-    requires { length output.old ≤ F.SymbolField.m }
-    ensures { output.new ≡ packets (alphabet F.Scalar.FiniteField F.FiniteField F.SymbolField) (length output.old) message.now }
+    requires { length output.old ≤ F.SymbolField.DEGREE }
+    ensures { output.new ≡ packets (alphabet F.Scalar.FiniteField F.SymbolField) (length output.old) message.now }
 {
-    let q = F::q();
+    let q = F::ORDER;
     let mut code: u32 = 1;
     for place in output.iter_mut() {
         let x = F::from_code(code).unwrap();
@@ -50,11 +50,11 @@ pub fn encode<F: SymbolField>(
     message: &[F],
     output: &mut [Packet<F>],
 ) -> Result<(), Refusal>
-    ensures answer { result ≡ answered (encode_refusal F.SymbolField.m k l (length message.now) (length output.old)) tt }
-    ensures output { output.new ≡ encoded (alphabet F.Scalar.FiniteField F.FiniteField F.SymbolField) (encode_refusal F.SymbolField.m k l (length message.now) (length output.old)) l message.now output.old }
-    ensures codewords { result ≡ Ok tt → Each (Codeword (alphabet F.Scalar.FiniteField F.FiniteField F.SymbolField) l message.now) (take l output.new) }
+    ensures answer { result ≡ answered (encode_refusal F.SymbolField.DEGREE k l (length message.now) (length output.old)) tt }
+    ensures output { output.new ≡ encoded (alphabet F.Scalar.FiniteField F.SymbolField) (encode_refusal F.SymbolField.DEGREE k l (length message.now) (length output.old)) l message.now output.old }
+    ensures codewords { result ≡ Ok tt → Each (Codeword (alphabet F.Scalar.FiniteField F.SymbolField) l message.now) (take l output.new) }
 {
-    check(F::m(), k, l, message.len(), output.len())?;
+    check(F::DEGREE, k, l, message.len(), output.len())?;
     write_packets(message, &mut output[..l]);
     Ok(())
 }

@@ -8,7 +8,7 @@ use field::{FiniteField, SymbolField};
 
 // f(x) for the polynomial with these coefficients.
 pub fn evaluate<F: SymbolField, H: Holding<F>>(coefficients: &[H::Slot], x: F) -> F
-    ensures { result ≡ value (alphabet F.Scalar.FiniteField F.FiniteField F.SymbolField) (map H.Holding.held coefficients.now) x }
+    ensures { result ≡ value (alphabet F.Scalar.FiniteField F.SymbolField) (map H.Holding.held coefficients.now) x }
 {
     let mut sum = F::zero();
     let mut power = x;

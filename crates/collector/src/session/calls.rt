@@ -21,10 +21,10 @@ impl Session {
         l: usize,
         rows: &mut [Packet<F>],
     ) -> Result<Session, Refusal>
-        ensures started { Started (alphabet F.Scalar.FiniteField F.FiniteField F.SymbolField) k l rows.old result rows.new }
-        ensures faithful { (s : SessionOf) → result ≡ Ok s → Faithful (alphabet F.Scalar.FiniteField F.FiniteField F.SymbolField) (record { session = s; rows = rows.new }) }
-        ensures orderless { (s : SessionOf) → result ≡ Ok s → Orderless (alphabet F.Scalar.FiniteField F.FiniteField F.SymbolField) (record { session = s; rows = rows.new }) }
-        ensures exact { (s : SessionOf) → result ≡ Ok s → Exact (alphabet F.Scalar.FiniteField F.FiniteField F.SymbolField) s.k s.l }
+        ensures started { Started (alphabet F.Scalar.FiniteField F.SymbolField) k l rows.old result rows.new }
+        ensures faithful { (s : SessionOf) → result ≡ Ok s → Faithful (alphabet F.Scalar.FiniteField F.SymbolField) (record { session = s; rows = rows.new }) }
+        ensures orderless { (s : SessionOf) → result ≡ Ok s → Orderless (alphabet F.Scalar.FiniteField F.SymbolField) (record { session = s; rows = rows.new }) }
+        ensures exact { (s : SessionOf) → result ≡ Ok s → Exact (alphabet F.Scalar.FiniteField F.SymbolField) s.k s.l }
     {
         let count = sized(k, l, rows)?;
         clear(&mut rows[0..count]);
@@ -37,7 +37,7 @@ impl Session {
 
     // An open number has taken nothing yet.
     pub fn open<F: SymbolField>(&mut self, rows: &[Packet<F>], number: u8) -> Result<(), Refusal>
-        ensures { Opened (alphabet F.Scalar.FiniteField F.FiniteField F.SymbolField) self.old rows.now number result self.new }
+        ensures { Opened (alphabet F.Scalar.FiniteField F.SymbolField) self.old rows.now number result self.new }
     {
         if self.look(rows, number)?.is_some() {
             return Err(Refusal::AlreadyOpen);
@@ -51,7 +51,7 @@ impl Session {
 
     // How many packets were taken, and the dimension of what they span.
     pub fn tally<F: SymbolField>(&self, rows: &[Packet<F>], number: u8) -> Result<Tally, Refusal>
-        ensures { Tallied (alphabet F.Scalar.FiniteField F.FiniteField F.SymbolField) self.now rows.now number result }
+        ensures { Tallied (alphabet F.Scalar.FiniteField F.SymbolField) self.now rows.now number result }
     {
         self.reach(rows, number)
     }
@@ -62,7 +62,7 @@ impl Session {
         rows: &mut [Packet<F>],
         number: u8,
     ) -> Result<(), Refusal>
-        ensures { Closed (alphabet F.Scalar.FiniteField F.FiniteField F.SymbolField) self.old rows.old number result self.new rows.new }
+        ensures { Closed (alphabet F.Scalar.FiniteField F.SymbolField) self.old rows.old number result self.new rows.new }
     {
         let _ = self.reach(rows, number)?;
         let place = self.place::<F>(number);

@@ -21,9 +21,9 @@ pub(crate) fn sized<F: SymbolField>(
     l: usize,
     rows: &[Packet<F>],
 ) -> Result<usize, Refusal>
-    ensures { Sized (alphabet F.Scalar.FiniteField F.FiniteField F.SymbolField) k l rows.now result }
+    ensures { Sized (alphabet F.Scalar.FiniteField F.SymbolField) k l rows.now result }
 {
-    let m = F::m();
+    let m = F::DEGREE;
     if k < 1 || l < k || m < l {
         return Err(Refusal::Parameters);
     }
@@ -36,7 +36,7 @@ pub(crate) fn sized<F: SymbolField>(
 
 // Zeroes the rows.
 pub(crate) fn clear<F: SymbolField>(rows: &mut [Packet<F>])
-    ensures { rows.new ≡ zero_rows (alphabet F.Scalar.FiniteField F.FiniteField F.SymbolField) (length rows.old) }
+    ensures { rows.new ≡ zero_rows (alphabet F.Scalar.FiniteField F.SymbolField) (length rows.old) }
 {
     let zero = Packet::zero();
     for row in rows.iter_mut() {
@@ -47,10 +47,10 @@ pub(crate) fn clear<F: SymbolField>(rows: &mut [Packet<F>])
 impl Session {
     // Where a number's rows stand.
     pub(crate) fn place<F: SymbolField>(&self, number: u8) -> Range<usize>
-        requires { (number < 8) × (self.now.l ≤ F.SymbolField.m) }
-        ensures { Place (self.now.l + F.SymbolField.m) number result }
+        requires { (number < 8) × (self.now.l ≤ F.SymbolField.DEGREE) }
+        ensures { Place (self.now.l + F.SymbolField.DEGREE) number result }
     {
-        let width = self.l + F::m();
+        let width = self.l + F::DEGREE;
         let from = number as usize * width;
         from..from + width
     }
@@ -61,7 +61,7 @@ impl Session {
         rows: &[Packet<F>],
         number: u8,
     ) -> Result<Option<Tally>, Refusal>
-        ensures { Looked (alphabet F.Scalar.FiniteField F.FiniteField F.SymbolField) self.now rows.now number result }
+        ensures { Looked (alphabet F.Scalar.FiniteField F.SymbolField) self.now rows.now number result }
     {
         sized(self.k, self.l, rows)?;
         let record = *self
@@ -82,7 +82,7 @@ impl Session {
         rows: &[Packet<F>],
         number: u8,
     ) -> Result<Tally, Refusal>
-        ensures { Reached (alphabet F.Scalar.FiniteField F.FiniteField F.SymbolField) self.now rows.now number result }
+        ensures { Reached (alphabet F.Scalar.FiniteField F.SymbolField) self.now rows.now number result }
     {
         self.look(rows, number)?.ok_or(Refusal::NotOpen)
     }

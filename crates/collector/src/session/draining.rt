@@ -25,11 +25,11 @@ fn fill<F: SymbolField, D: Feed<Item = Packet<F>>>(
     l: usize,
     feed: &mut D,
 ) -> (usize, Drained)
-    requires window { PacketWindow (alphabet F.Scalar.FiniteField F.FiniteField F.SymbolField) l dimension window.old }
-    requires wide { (l ≤ F.SymbolField.m) × (l + F.SymbolField.m ≤ length window.old) }
-    ensures window { PacketWindow (alphabet F.Scalar.FiniteField F.FiniteField F.SymbolField) l result.0 window.new }
-    ensures spans { Spans (packet_rows (alphabet F.Scalar.FiniteField F.FiniteField F.SymbolField)) (take result.0 window.new) (Sum (packet_rows (alphabet F.Scalar.FiniteField F.FiniteField F.SymbolField)) (Span (packet_rows (alphabet F.Scalar.FiniteField F.FiniteField F.SymbolField)) (take dimension window.old)) (Span (packet_rows (alphabet F.Scalar.FiniteField F.FiniteField F.SymbolField)) (kept (alphabet F.Scalar.FiniteField F.FiniteField F.SymbolField) l (D.list feed.old)))) }
-    ensures gives { DrainAnswer (alphabet F.Scalar.FiniteField F.FiniteField F.SymbolField) l (D.list feed.old) result.1 }
+    requires window { PacketWindow (alphabet F.Scalar.FiniteField F.SymbolField) l dimension window.old }
+    requires wide { (l ≤ F.SymbolField.DEGREE) × (l + F.SymbolField.DEGREE ≤ length window.old) }
+    ensures window { PacketWindow (alphabet F.Scalar.FiniteField F.SymbolField) l result.0 window.new }
+    ensures spans { Spans (packet_rows (alphabet F.Scalar.FiniteField F.SymbolField)) (take result.0 window.new) (Sum (packet_rows (alphabet F.Scalar.FiniteField F.SymbolField)) (Span (packet_rows (alphabet F.Scalar.FiniteField F.SymbolField)) (take dimension window.old)) (Span (packet_rows (alphabet F.Scalar.FiniteField F.SymbolField)) (kept (alphabet F.Scalar.FiniteField F.SymbolField) l (D.list feed.old)))) }
+    ensures gives { DrainAnswer (alphabet F.Scalar.FiniteField F.SymbolField) l (D.list feed.old) result.1 }
     ensures empty { D.list feed.new ≡ [] }
     ensures same { D.lenders feed.new ≡ D.lenders feed.old }
 {
@@ -55,7 +55,7 @@ impl Session {
         number: u8,
         more: usize,
     ) -> Result<Tally, Refusal>
-        ensures { Admitted (alphabet F.Scalar.FiniteField F.FiniteField F.SymbolField) self.now rows.now number more result }
+        ensures { Admitted (alphabet F.Scalar.FiniteField F.SymbolField) self.now rows.now number more result }
     {
         let tally = self.reach(rows, number)?;
         if LIST_LIMIT < tally.taken.saturating_add(more) {
@@ -71,7 +71,7 @@ impl Session {
         number: u8,
         feed: &mut D,
     ) -> Result<Drained, Refusal>
-        ensures drains { Drains (alphabet F.Scalar.FiniteField F.FiniteField F.SymbolField) self.old rows.old number (D.list feed.old) result (D.list feed.new) self.new rows.new }
+        ensures drains { Drains (alphabet F.Scalar.FiniteField F.SymbolField) self.old rows.old number (D.list feed.old) result (D.list feed.new) self.new rows.new }
         ensures refused { (e : RefusalOf) → result ≡ Err e → feed.new ≡ feed.old }
         ensures same { D.lenders feed.new ≡ D.lenders feed.old }
     {

@@ -17,7 +17,7 @@ impl Session {
         number: u8,
         output: &mut [F],
     ) -> Result<Solved, Refusal>
-        ensures { Solves (alphabet F.Scalar.FiniteField F.FiniteField F.SymbolField) self.now rows.now number output.old result output.new }
+        ensures { Solves (alphabet F.Scalar.FiniteField F.SymbolField) self.now rows.now number output.old result output.new }
     {
         let dimension = self.reach(rows, number)?.dimension;
         if output.len() < self.k {

@@ -20,7 +20,7 @@ impl Session {
         x: u32,
         y: u32,
     ) -> Result<(Tally, Packet<F>), Refusal>
-        ensures { Judged (alphabet F.Scalar.FiniteField F.FiniteField F.SymbolField) self.now rows.now number x y result }
+        ensures { Judged (alphabet F.Scalar.FiniteField F.SymbolField) self.now rows.now number x y result }
     {
         let tally = self.reach(rows, number)?;
         let header = F::from_code(x).ok_or(Refusal::Header)?;
@@ -46,7 +46,7 @@ impl Session {
         x: u32,
         y: u32,
     ) -> Result<Taken, Refusal>
-        ensures { Took (alphabet F.Scalar.FiniteField F.FiniteField F.SymbolField) self.old rows.old number x y result self.new rows.new }
+        ensures { Took (alphabet F.Scalar.FiniteField F.SymbolField) self.old rows.old number x y result self.new rows.new }
     {
         let (tally, packet) = self.judge(rows, number, x, y)?;
         let place = self.place::<F>(number);

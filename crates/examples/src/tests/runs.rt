@@ -27,7 +27,7 @@ fn comes_back<F: SymbolField>(
     encode(2, 6, block, sent)?;
     let mut session = Session::start(2, 6, rows)?;
     session.open(rows, 3)?;
-    let scalar = element(F::q().saturating_sub(1))?;
+    let scalar = element(F::ORDER.saturating_sub(1))?;
     let joined = Join::new(Gap::new(Held::new(sent), 2), Held::new(foreign));
     session.drain(rows, 3, &mut Stir::new(joined, scalar))?;
     let solved = session.solve(rows, 3, output)?;

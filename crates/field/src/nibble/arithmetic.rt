@@ -65,9 +65,9 @@ impl SymbolField for Nibble {
 
     const DEGREE: usize = 7;
 
-    ghost q = { 2 ^ 4 };
+    ghost ORDER = { 2 ^ 4 };
 
-    ghost m = { 7 };
+    ghost DEGREE = { 7 };
 
     ghost embed = { embedding hex_digits nibbles };
 
@@ -77,14 +77,6 @@ impl SymbolField for Nibble {
 
     ghost extension = { Extensions.extension hex_digits_binary nibbles_binary (field_by_codes hex_digits hex_digits_binary) (field_by_codes nibbles nibbles_binary) hex_digits_agree
         (lit≤ tt) (lit≤ tt) (lit≤ tt) };
-
-    fn q() -> u32 {
-        Self::ORDER
-    }
-
-    fn m() -> usize {
-        Self::DEGREE
-    }
 
     fn raise(self) -> Nibble {
         Nibble {

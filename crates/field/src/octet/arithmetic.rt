@@ -84,9 +84,9 @@ impl SymbolField for Octet {
 
     const DEGREE: usize = 8;
 
-    ghost q = { 2 ^ 1 };
+    ghost ORDER = { 2 ^ 1 };
 
-    ghost m = { 8 };
+    ghost DEGREE = { 8 };
 
     ghost embed = { embedding bits octets };
 
@@ -97,14 +97,6 @@ impl SymbolField for Octet {
     ghost extension = { unfold computing in
         Extensions.extension bits_binary octets_binary (field_by_codes bits bits_binary) (field_by_codes octets octets_binary) (computed₂ _ _ 1 1 tt)
         (lit≤ tt) (lit≤ tt) (lit≤ tt) };
-
-    fn q() -> u32 {
-        Self::ORDER
-    }
-
-    fn m() -> usize {
-        Self::DEGREE
-    }
 
     fn raise(self) -> Octet {
         self.times(self)

@@ -65,9 +65,9 @@ impl SymbolField for Word {
 
     const DEGREE: usize = 16;
 
-    ghost q = { 2 ^ 1 };
+    ghost ORDER = { 2 ^ 1 };
 
-    ghost m = { 16 };
+    ghost DEGREE = { 16 };
 
     ghost embed = { embedding bits words };
 
@@ -78,14 +78,6 @@ impl SymbolField for Word {
     ghost extension = { unfold computing in
         Extensions.extension bits_binary words_binary (field_by_codes bits bits_binary) (field_by_codes words words_binary) (computed₂ _ _ 1 1 tt)
         (lit≤ tt) (lit≤ tt) (lit≤ tt) };
-
-    fn q() -> u32 {
-        Self::ORDER
-    }
-
-    fn m() -> usize {
-        Self::DEGREE
-    }
 
     fn raise(self) -> Word {
         Word {

@@ -26,7 +26,7 @@ pub loop-packet-init : goal.loop-packet-init
 unfolding A
 loop-packet-init g c = (
   subst (Window (A g).scalars (packet_rows (A g)) 0) (sym c.clear.ensures) (window_zero (packet_laws (laws g)) (length c.args.rows.now)),
-  subst (λ m. m + m ≤ length c.clear.new.rows) c.m-m.ensures c.if-rows-m.false,
+  subst (λ m. m + m ≤ length c.clear.new.rows) c.DEGREE-m.ensures c.if-rows-m.false,
 )
 
 pub loop-packet-preserved : goal.loop-packet-preserved

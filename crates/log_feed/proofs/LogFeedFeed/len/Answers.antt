@@ -18,7 +18,7 @@ count-requires-clause-fits g c =
 pub returns : goal.returns
 returns g c =
     let A = alphabet g.F.Scalar.FiniteField g.F.FiniteField g.F.SymbolField in
-    let name = g.F.LogField.name in
+    let name = g.F.LogField.NAME in
     let feed = c.args.self.now in
     count_from_yields_List c.filter_map.result c.count.result c.count.ensures.ran
     (YieldsList-from_filter_map _ (with_number A name feed.number) (YieldsList-at c.filter_map.ensures.source (entries_yielded A name feed.reader)) c.filter_map.ensures.closure (λ x r q k. search (rules, tests)))

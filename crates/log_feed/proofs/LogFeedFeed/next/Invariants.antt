@@ -9,7 +9,7 @@ use Rattle.log_feed.proofs.LogFeedFeed.next.Given as goal
 abbrev pub invariant-loop-line : goal.invariant-loop-line
 invariant-loop-line g l =
     let A = alphabet g.F.Scalar.FiniteField g.F.FiniteField g.F.SymbolField in
-    let name = g.F.LogField.name in
+    let name = g.F.LogField.NAME in
     (l.self.number ≡ l.initial.self.number) × (l.self.reader.lines.text.now ≡ l.initial.self.reader.lines.text.now)
     × (numbered A name l.initial.self.number (left_entries A name l.self.reader) ≡ numbered A name l.initial.self.number (left_entries A name l.initial.self.reader))
 

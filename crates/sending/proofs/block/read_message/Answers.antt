@@ -17,13 +17,13 @@ A g = alphabet g.F.Scalar.FiniteField g.F.FiniteField g.F.SymbolField
 
 pub loop-code-init : goal.loop-code-init
 loop-code-init g c =
-    let whole = message_of (A g) g.F.LogField.name (left_parts c.into_iter-code-iterator.result) in
+    let whole = message_of (A g) g.F.LogField.NAME (left_parts c.into_iter-code-iterator.result) in
     (tt, tt, ap (λ xs. after xs whole) c.new-message.ensures.items ∙ after_none whole)
 
 pub loop-code-preserved : goal.loop-code-preserved
 loop-code-preserved g c =
     let xs = vec_items c.loop-code.message in
-    let name = g.F.LogField.name in
+    let name = g.F.LogField.NAME in
     let left = left_parts c.loop-code.code-iterator in
     let more = left_parts c.next.new.self in
     let x = c.in_ok-symbol.symbol in
@@ -34,7 +34,7 @@ loop-code-preserved g c =
 
 pub returns-in_err-symbol : goal.returns-in_err-symbol
 returns-in_err-symbol g c =
-    let name = g.F.LogField.name in
+    let name = g.F.LogField.NAME in
     let e = c.in_err-symbol.field-0.0 in
     let read : ok_or (symbol (A g) name c.in-Some.code.now) LineShape ≡ Err e = ap (λ o. ok_or o LineShape) (sym c.read_symbol.ensures) ∙ sym c.ok_or.ensures.value ∙ c.in_err-symbol.was in
     let stops = message_stops (A g) name (vec_items c.loop-code.message) (left_parts c.loop-code.code-iterator) c.in-Some.code.now (left_parts c.next.new.self) e c.in-Some.ensures.steps read in
@@ -46,5 +46,5 @@ returns-in_err-push g c = answers_memory vec_items c.from_residual-in_err-push.r
 
 pub returns : goal.returns
 returns g c =
-    let ends = message_ends (A g) g.F.LogField.name (vec_items c.loop-code.message) (left_parts c.loop-code.code-iterator) c.in-None.ensures.steps.0 in
-    ap (λ s. message_of (A g) g.F.LogField.name (left_parts s)) (sym c.into_iter-code-iterator.ensures.into_iter_gives) ∙ sym c.loop-code.invariant.2 ∙ ends
+    let ends = message_ends (A g) g.F.LogField.NAME (vec_items c.loop-code.message) (left_parts c.loop-code.code-iterator) c.in-None.ensures.steps.0 in
+    ap (λ s. message_of (A g) g.F.LogField.NAME (left_parts s)) (sym c.into_iter-code-iterator.ensures.into_iter_gives) ∙ sym c.loop-code.invariant.2 ∙ ends

@@ -8,7 +8,7 @@ use Rattle.sending.proofs.writing.packet_lines.Given as given
 use Rattle.sending.proofs.writing.packet_lines.Goals as goal
 
 abbrev line_of : (g : given.Over) → ℕ → Packet g.row.F.Denot → List ℕ
-line_of g = packet_line (alphabet g.F.Scalar.FiniteField g.F.FiniteField g.F.SymbolField) g.F.LogField.name
+line_of g = packet_line (alphabet g.F.Scalar.FiniteField g.F.FiniteField g.F.SymbolField) g.F.LogField.NAME
 
 pub loop-packet-preserved : goal.loop-packet-preserved
 loop-packet-preserved g c =

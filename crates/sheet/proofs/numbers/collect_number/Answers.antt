@@ -48,7 +48,7 @@ fed_number name h b log below short first named = search rules
 pub returns : goal.returns
 unfolding A
 returns g c =
-    let name = g.F.LogField.name in
+    let name = g.F.LogField.NAME in
     let b = c.args.number in
     let log = c.args.log.now in
     let packets = log_packets (A g) name b log.bytes.now in

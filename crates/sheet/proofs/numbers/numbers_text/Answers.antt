@@ -17,7 +17,7 @@ pub unwrap-session-requires : goal.unwrap-session-requires
 unfolding A
 unwrap-session-requires g c =
     let h = c.args.log.now.head in
-    let room : 8 * (h.l + g.F.SymbolField.m) ≤ length c.deref_mut.result.now = omega (arith, c.deref_mut.ensures.len, c.in_ok-rows.ensures.len, c.m.ensures) in
+    let room : 8 * (h.l + g.F.SymbolField.DEGREE) ≤ length c.deref_mut.result.now = omega (arith, c.deref_mut.ensures.len, c.in_ok-rows.ensures.len, c.DEGREE.ensures) in
     unrefused_is_ok c.start.result (λ e is.
     start_not_refused (A g) h.k h.l c.deref_mut.result.now e c.args.log.now.fits room
     (subst (λ r. Started (A g) h.k h.l c.deref_mut.result.now r c.start.new.rows) is c.start.ensures.started).0)
@@ -28,20 +28,20 @@ loop-number-init g c =
     let s = c.unwrap-session.result in
     let log = c.args.log.now.bytes.now in
     let begun : State g.row.F.Denot = record { session = s; rows = c.start.new.rows } in
-    subst (λ t. Progress (A g) g.F.LogField.name s.k s.l log 0 begun t 0 0) (sym c.new-text.ensures.bytes)
-    (progress_start (A g) g.F.LogField.name s.k s.l log _ begun (c.start.ensures.faithful s c.unwrap-session.ensures [] tt))
+    subst (λ t. Progress (A g) g.F.LogField.NAME s.k s.l log 0 begun t 0 0) (sym c.new-text.ensures.bytes)
+    (progress_start (A g) g.F.LogField.NAME s.k s.l log _ begun (c.start.ensures.faithful s c.unwrap-session.ensures [] tt))
 
 pub collect_number-outcome-requires : goal.collect_number-outcome-requires
 unfolding A
 collect_number-outcome-requires g c =
     let s = c.unwrap-session.result in
-    record { below = c.loop-number-test.true; stands = progress_stands (A g) g.F.LogField.name s.k s.l c.args.log.now.bytes.now c.loop-number.invariant }
+    record { below = c.loop-number-test.true; stands = progress_stands (A g) g.F.LogField.NAME s.k s.l c.args.log.now.bytes.now c.loop-number.invariant }
 
 pub loop-number-preserved : goal.loop-number-preserved
 unfolding A
 loop-number-preserved g c =
     let s = c.unwrap-session.result in
-    let name = g.F.LogField.name in
+    let name = g.F.LogField.NAME in
     let log = c.args.log.now.bytes.now in
     let p = c.loop-number.invariant in
     let b = c.loop-number.number in
@@ -59,7 +59,7 @@ pub returns : goal.returns
 unfolding A
 returns g c =
     let s = c.unwrap-session.result in
-    let name = g.F.LogField.name in
+    let name = g.F.LogField.NAME in
     let log = c.args.log.now in
     let started = subst (λ r. Started (A g) log.head.k log.head.l c.deref_mut.result.now r c.start.new.rows) c.unwrap-session.ensures c.start.ensures.started in
     let end : c.loop-number.number ≡ 8 = omega (arith, c.loop-number-test.false, c.loop-number.auto.number-end) in

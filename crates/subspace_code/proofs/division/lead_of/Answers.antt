@@ -30,6 +30,6 @@ returns g c =
     record {
       top = omega (arith, c.requires, c.counted_length-place.ensures);
       inverts = cc;
-      undoes = subst (λ m. (j : ℕ) × ((n - 1) + (m - (n - 1) % m) % m ≡ j * g.F.SymbolField.m)) (sym c.m-m.ensures)
-          (raises_undo (n - 1) g.F.SymbolField.m g.met.F.SymbolField.extension.one_coordinate);
+      undoes = subst (λ m. (j : ℕ) × ((n - 1) + (m - (n - 1) % m) % m ≡ j * g.F.SymbolField.DEGREE)) (sym c.DEGREE-m.ensures)
+          (raises_undo (n - 1) g.F.SymbolField.DEGREE g.met.F.SymbolField.extension.one_coordinate);
     }

@@ -21,7 +21,7 @@ unfolding A
 returns-clause-codewords g c _ =
     let ℓ = c.args.l in
     let u = c.args.message.now in
-    let small : ℓ ≤ g.F.SymbolField.m = search rules in
+    let small : ℓ ≤ g.F.SymbolField.DEGREE = search rules in
     let room : ℓ ≤ length c.args.output.now = search rules in
     let many : length (take ℓ c.args.output.now) ≡ ℓ = simp length-take (omega arith) in
     let sent : c.write_packets.new.output ≡ packets (A g) ℓ u = c.write_packets.ensures ∙ ap (λ n. packets (A g) n u) many in

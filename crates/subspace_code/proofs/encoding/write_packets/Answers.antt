@@ -30,13 +30,13 @@ unwrap-x-requires g c =
     rw (c.from_code.ensures ∙ e) refl
 
 -- one code more
-next_code : (g : given.Over) (i code q : ℕ) → code ≡ g.F.SymbolField.q ^ i → q ≡ g.F.SymbolField.q → code * q ≡ g.F.SymbolField.q ^ (i + 1)
-next_code g i code q e f = ap (λ n. n * q) e ∙ ap (λ n. g.F.SymbolField.q ^ i * n) f ∙ sym (power_step g.F.SymbolField.q i)
+next_code : (g : given.Over) (i code q : ℕ) → code ≡ g.F.SymbolField.ORDER ^ i → q ≡ g.F.SymbolField.ORDER → code * q ≡ g.F.SymbolField.ORDER ^ (i + 1)
+next_code g i code q e f = ap (λ n. n * q) e ∙ ap (λ n. g.F.SymbolField.ORDER ^ i * n) f ∙ sym (power_step g.F.SymbolField.ORDER i)
 
 pub overflow_mul-code : goal.overflow_mul-code
 unfolding A
 overflow_mul-code g c =
-    let step = next_code g c.loop-place.place-index c.loop-place.code c.q-q.result c.loop-place.invariant.0 c.q-q.ensures in
+    let step = next_code g c.loop-place.place-index c.loop-place.code c.ORDER-q.result c.loop-place.invariant.0 c.ORDER-q.ensures in
     Fits-lt {n = 2 ^ 28 + 1} (omega (arith, step, power_limit (laws g) (c.loop-place.place-index + 1) (omega arith))) (Fits-lit tt)
 
 pub loop-place-preserved : goal.loop-place-preserved
@@ -49,7 +49,7 @@ loop-place-preserved g c =
     let packet : Packet g.row.F.Denot = record { x = c.unwrap-x.result; y = c.evaluate-y.result } in
     let sent : packet ≡ packet_at (A g) u (basis (A g) i) =
     (λ t. record { x = c.unwrap-x.result; y = (c.evaluate-y.ensures ∙ ap (λ v. value (A g) v c.unwrap-x.result) (map-id u)) t }) ∙ ap (packet_at (A g) u) at in (
-      next_code g i c.loop-place.code c.q-q.result c.loop-place.invariant.0 c.q-q.ensures,
+      next_code g i c.loop-place.code c.ORDER-q.result c.loop-place.invariant.0 c.ORDER-q.ensures,
       ap (λ ps. set ps i packet) c.loop-place.invariant.1 ∙ ap (set _ i) sent
           ∙ front_more (λ j. packet_at (A g) u (basis (A g) j)) c.args.output.now i packet (omega arith),
     )

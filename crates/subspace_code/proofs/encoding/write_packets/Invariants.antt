@@ -6,5 +6,5 @@ use Rattle.subspace_code.proofs.encoding.write_packets.Given as goal
 
 abbrev pub invariant-loop-place : goal.invariant-loop-place
 invariant-loop-place g l =
-    (l.code ≡ g.F.SymbolField.q ^ l.place-index)
+    (l.code ≡ g.F.SymbolField.ORDER ^ l.place-index)
     × (l.output ≡ packets (alphabet g.F.Scalar.FiniteField g.F.FiniteField g.F.SymbolField) l.place-index l.message ++ drop l.place-index l.initial.output)

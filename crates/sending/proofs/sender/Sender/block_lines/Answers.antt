@@ -10,7 +10,7 @@ use Rattle.sending.proofs.sender.Sender.block_lines.Goals as goal
 pub returns : goal.returns
 returns g c =
     let A = alphabet g.F.Scalar.FiniteField g.F.FiniteField g.F.SymbolField in
-    let name = g.F.LogField.name in
+    let name = g.F.LogField.NAME in
     let h = c.args.self.now.head in
     let n = c.args.block.now.number in
     let packets = c.in_ok-packets.packets in
