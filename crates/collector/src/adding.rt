@@ -1,5 +1,6 @@
 // Row adding: rows in reduced form, changed in place, at every kind of row.
 ghost use Rattle.std.specs.Prelude.{◌≡◌, ◌+◌, ◌-◌, ◌<◌, ◌≤◌, ◌∷◌, ◌++◌, map, length, take, drop};
+ghost use Rattle.std.specs.List.{insert as inserted};
 ghost use Rattle.linear.specs.Rows.{minus, cleared};
 ghost use Rattle.linear.specs.Span.{Each, Span};
 ghost use Rattle.linear.specs.Reduced.{Reduced};
@@ -72,7 +73,7 @@ fn clear<R: Row>(rows: &mut [R], p: usize, unit: R)
 // Puts `row` at place `at` among the first n rows, over the row after them.
 fn insert<R: Copy>(rows: &mut [R], at: usize, n: usize, row: R)
     requires { (at ≤ n) × (n < length rows.old) }
-    ensures { rows.new ≡ take at rows.old ++ (row ∷ take (n - at) (drop at rows.old)) ++ drop (n + 1) rows.old }
+    ensures { rows.new ≡ inserted (take n rows.old) at row ++ drop (n + 1) rows.old }
 {
     rows[n] = row;
     rows[at..=n].rotate_right(1);
@@ -84,7 +85,8 @@ pub(crate) fn add_row<R: Row>(rows: &mut [R], dim: usize, row: R) -> Taken
     requires room { (Span R.rows rows.old row → ⊥) → dim < length rows.old }
     ensures added { Added R.Scalar.field R.rows dim row rows.old rows.new result.dimension result.rose }
 {
-    let rest = remainder(&rows[..dim], row);
+    let reduced = &rows[..dim];
+    let rest = remainder(reduced, row);
     let p = leading(rest, 0);
     let Some(inverse) = rest.coordinate(p).inverse() else {
         return Taken {
@@ -93,7 +95,7 @@ pub(crate) fn add_row<R: Row>(rows: &mut [R], dim: usize, row: R) -> Taken
         };
     };
     let unit = rest.scaled(inverse);
-    let at = slot(&rows[..dim], p);
+    let at = slot(reduced, p);
     clear(&mut rows[..at], p, unit);
     insert(rows, at, dim, unit);
     Taken {

@@ -41,10 +41,7 @@ impl<F: FiniteField> CodeRow<F> {
     fn symbol(self) -> F
         ensures { result ≡ self }
     {
-        let Some(symbol) = F::from_code(self.code) else {
-            unreachable()
-        };
-        symbol
+        F::from_code(self.code).unwrap()
     }
 }
 
