@@ -1,6 +1,7 @@
 -- Polynomials held as codes: places that a loop has read and written, and the coefficients that stand there after.
 use Rattle.std.proofs.Common.{◌≡◌, ℕ, zero as 0ₙ, suc, ◌+◌, ◌-◌, ◌<◌, ◌≤◌, true, false, cond, ltb, ◌⊎◌, List, ◌∷◌, ◌++◌, map, length, get_or, take, drop, set, replicate, sym, refl, ap, ◌∙◌, ap₂, inl, inr, zero-add, arith}
 use native.Mathlib.Decide.{dec_lt}
+use lib.ListN.{length-map}
 use Rattle.std.specs.List.{range_with_len}
 use Rattle.std.proofs.lemmas.List.{map-set, get_or-map, take-map, get_or-take, length-take, take-append-le, take_all, get_or_append_left, get_or-append_right, get_or-drop}
 use Rattle.std.proofs.lemmas.List.FromFn.{length-map-range_with_len, get_or-map-range_with_len}
@@ -95,6 +96,9 @@ module _ {K S : Type 0} {A : Alphabet K S} (laws : Lawful A) where
   module _ {codes : List ℕ} {p : ℕ} {f : List S} (held : Holds A codes p f) where
     pub held_past : (n : ℕ) → p ≤ n → at G f n ≡ zero
     held_past n l = ap (λ g. at G g n) (sym held.front) ∙ front_past A codes p n l
+
+    pub held_length : p ≤ length codes → length f ≡ p
+    held_length l = omega (arith, ap length held.front, length-map (take p codes) (held_code (members A)), length-take p codes)
 
     pub held_whole : (n : ℕ) → at G (polynomial A codes) n ≡ at G f n
     held_whole n = elim (dec_lt n p) [

@@ -27,12 +27,13 @@ pub(crate) struct Polynomial<F: SymbolField> {
 impl<F: SymbolField> Model for Polynomial<F> {
     ghost use Rattle.std.specs.Prelude.{◌≡◌, ℕ, ◌≤◌, List, map, take, slice_index_or};
     ghost use Rattle.subspace_code.specs.Holding.{held_code};
+    ghost use Rattle.collector.specs.Interpolation.{room};
 
     ghost Value = { List F };
 
     ghost view = { λ f. map (held_code F.FiniteField) (take f.places f.codes) };
 
-    ghost invariant = { λ f. (f.places ≤ 48) × ((n : ℕ) → f.places ≤ n → slice_index_or f.codes n 0 ≡ 0) };
+    ghost invariant = { λ f. (f.places ≤ room) × ((n : ℕ) → f.places ≤ n → slice_index_or f.codes n 0 ≡ 0) };
 }
 
 impl<F: SymbolField> Polynomial<F> {
@@ -68,6 +69,7 @@ impl<F: SymbolField> Polynomial<F> {
         &self.codes[..self.places]
     }
 
+    // f(x) for this f.
     pub(crate) fn value(&self, x: F) -> F
         ensures { result ≡ value (alphabet F.Scalar.FiniteField F.SymbolField) self.now x }
     {

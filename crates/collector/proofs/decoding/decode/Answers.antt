@@ -1,4 +1,4 @@
-use Rattle.std.proofs.Common.{◌≡◌, ℕ, ◌≤◌, List, ◌++◌, length, take, drop, refl, ap, ◌∙◌, arith, length-take, Fits-lit}
+use Rattle.std.proofs.Common.{◌≡◌, ℕ, ◌-◌, ◌≤◌, List, ◌++◌, length, take, drop, refl, ap, ◌∙◌, arith, length-take, Fits-lit}
 use lib.ListN.{length-map}
 use mir.Facts.{Fits-lt}
 use Rattle.field.specs.Alphabet.{Lawful}
@@ -9,6 +9,7 @@ use Rattle.collector.proofs.HeldPolynomials.{front_at}
 use Rattle.collector.proofs.Candidates.{no_quotient, measured_shared, measured_found, measured_none}
 use Rattle.collector.proofs.decoding.decode.Given as given
 use Rattle.collector.proofs.decoding.decode.Goals as goal
+use Rattle.collector.proofs.decoding.decode.Goals.{After-measure-foreign}
 
 laws : (g : given.Over) → Lawful (alphabet g.F.Scalar.FiniteField g.F.FiniteField g.F.SymbolField)
 laws g = record { scalar_codes = g.met.F.Scalar.FiniteField.codes; codes = g.met.F.FiniteField.codes; extension = g.met.F.SymbolField.extension }
@@ -24,15 +25,19 @@ pub returns-in_err-codes : goal.returns-in_err-codes
 returns-in_err-codes g c =
     rw c.from_residual.ensures (no_quotient (laws g) c.args.k c.args.l c.requires.allowed.1.1 c.args.packets.now c.requires.headers c.requires.dimension c.in_err-codes.ensures, refl)
 
+-- the message's measure is at most the dimension, and what is shared at most ℓ
+shared : (g : given.Over) (c : After-measure-foreign g) → (c.measure-foreign.result ≤ length c.args.packets.now) × (length c.args.packets.now - c.measure-foreign.result ≤ c.args.l)
+shared g c =
+    measured_shared (laws g) c.args.k c.args.l c.requires.allowed.1.1 c.args.packets.now c.requires.headers c.requires.dimension (message g c.args.k c.in_ok-codes.codes) c.measure-foreign.result
+    c.measure-foreign.ensures
+
 pub overflow_mul-foreign : goal.overflow_mul-foreign
 overflow_mul-foreign g c =
-    let (some, within) = measured_shared (laws g) c.args.k c.args.l c.requires.allowed.1.1 c.args.packets.now c.requires.headers c.requires.dimension (message g c.args.k c.in_ok-codes.codes) c.measure-foreign.result c.measure-foreign.ensures in
-    Fits-lt {n = 100} (omega (arith, (laws g).extension.coordinate_limit)) (Fits-lit tt)
+    Fits-lt {n = 100} (omega (arith, (laws g).extension.coordinate_limit, shared g (goal.at.overflow_mul-foreign g c).After-measure-foreign)) (Fits-lit tt)
 
 pub overflow_add-foreign : goal.overflow_add-foreign
 overflow_add-foreign g c =
-    let (some, within) = measured_shared (laws g) c.args.k c.args.l c.requires.allowed.1.1 c.args.packets.now c.requires.headers c.requires.dimension (message g c.args.k c.in_ok-codes.codes) c.measure-foreign.result c.measure-foreign.ensures in
-    Fits-lt {n = 100} (omega (arith, (laws g).extension.coordinate_limit)) (Fits-lit tt)
+    Fits-lt {n = 100} (omega (arith, (laws g).extension.coordinate_limit, shared g (goal.at.overflow_add-foreign g c).After-measure-foreign)) (Fits-lit tt)
 
 pub returns-then-r-foreign : goal.returns-then-r-foreign
 returns-then-r-foreign g c =
@@ -47,8 +52,7 @@ returns-then-r-foreign g c =
     )
 
 pub overflow_sub-lost : goal.overflow_sub-lost
-overflow_sub-lost g c =
-    (measured_shared (laws g) c.args.k c.args.l c.requires.allowed.1.1 c.args.packets.now c.requires.headers c.requires.dimension (message g c.args.k c.in_ok-codes.codes) c.measure-foreign.result c.measure-foreign.ensures).1
+overflow_sub-lost g c = (shared g (goal.at.overflow_sub-lost g c).After-measure-foreign).1
 
 pub returns : goal.returns
 returns g c =

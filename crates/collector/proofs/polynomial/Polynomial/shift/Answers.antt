@@ -1,4 +1,4 @@
-use Rattle.std.proofs.Common.{◌≡◌, ◌+◌, ◌<◌, length, take, sym, ap, ◌∙◌, ap₂, add-one, arith}
+use Rattle.std.proofs.Common.{◌≡◌, ℕ, ◌+◌, ◌<◌, length, take, sym, ap, ◌∙◌, ap₂, add-one, arith}
 use lib.ListN.{length-map}
 use Rattle.std.proofs.lemmas.List.{length-take}
 use Rattle.field.specs.Alphabet.{Lawful}
@@ -7,27 +7,34 @@ use Rattle.linearized.specs.Polynomials.{at}
 use Rattle.linearized.specs.Coefficients.{before}
 use Rattle.subspace_code.specs.Holding.{held_code}
 use Rattle.collector.specs.Interpolation.{polynomial, shifted}
-use Rattle.collector.proofs.HeldPolynomials.{spliced_rest, read_next, write_next, written_places, Holds, held_past, held_front, shifted_null, shifted_same}
+use Rattle.collector.proofs.HeldPolynomials.{spliced_rest, read_next, write_next, written_places, Holds, held_past, held_length, held_front, shifted_null, shifted_same}
 use Rattle.collector.proofs.polynomial.Polynomial.shift.Given as given
 use Rattle.collector.proofs.polynomial.Polynomial.shift.Goals as goal
+use Rattle.collector.proofs.polynomial.Polynomial.shift.Goals.{After-self}
 
 laws : (g : given.Over) → Lawful (alphabet g.F.Scalar.FiniteField g.F.FiniteField g.F.SymbolField)
 laws g = record { scalar_codes = g.met.F.Scalar.FiniteField.codes; codes = g.met.F.FiniteField.codes; extension = g.met.F.SymbolField.extension }
 
+held : (g : given.Over) (c : After-self g) → Holds (alphabet g.F.Scalar.FiniteField g.F.FiniteField g.F.SymbolField) c.self.inside.codes c.self.inside.places c.args.self.now
+held g c = record { front = c.self.view_is; zeros = c.self.invariant.1 }
+
+-- there is room for one place more
+short : (g : given.Over) (c : After-self g) → c.self.inside.places < 48
+short g c = omega (arith, c.requires, held_length (laws g) (held g c) (omega (arith, c.self.told, c.self.invariant)))
+
 pub returns-then-self-eq0-clause-shifted : goal.returns-then-self-eq0-clause-shifted
 returns-then-self-eq0-clause-shifted g c n =
-    let held : Holds (alphabet g.F.Scalar.FiniteField g.F.FiniteField g.F.SymbolField) c.self.inside.codes c.self.inside.places c.args.self.now =
-    record { front = c.self.view_is; zeros = c.self.invariant.1 } in
-    held_past (laws g) held n (omega (arith, c.if-self-eq0.true))
-    ∙ sym (shifted_null (laws g) c.args.c c.args.self.now 0 (λ i l. held_past (laws g) held i (omega (arith, c.if-self-eq0.true))) n (omega arith))
+    let null : (i : ℕ) → at g.F.FiniteField.field c.args.self.now i ≡ g.F.FiniteField.field.zero =
+    λ i. held_past (laws g) (held g (goal.at.returns-then-self-eq0-clause-shifted g c).After-self) i (omega (arith, c.if-self-eq0.true)) in
+    null n ∙ sym (shifted_null (laws g) c.args.c c.args.self.now 0 (λ i l. null i) n (omega arith))
 
 pub invariant_of-self : goal.invariant_of-self
 invariant_of-self g c =
     let p = c.self.inside.places in
     let codes = c.self.inside.codes in
-    let short : p < 48 = omega (arith, c.requires, ap length c.self.view_is, length-map (take p codes) (held_code g.F.FiniteField), length-take p codes, c.self.told) in (
-      omega (arith, short),
-      λ n l. spliced_rest c.loop-slot.slot-items codes (p + 1) n 0 (omega (arith, short, length-take (p + 1) codes, c.self.told)) l ∙ c.self.invariant.1 n (omega arith),
+    let room = short g (goal.at.invariant_of-self g c).After-self in (
+      omega (arith, room),
+      λ n l. spliced_rest c.loop-slot.slot-items codes (p + 1) n 0 (omega (arith, room, length-take (p + 1) codes, c.self.told)) l ∙ c.self.invariant.1 n (omega arith),
     )
 
 pub loop-slot-preserved : goal.loop-slot-preserved
@@ -53,10 +60,10 @@ returns-clause-shifted g c n =
     let G = g.F.FiniteField.field in
     let p = c.self.inside.places in
     let codes = c.self.inside.codes in
-    let short : p < 48 = omega (arith, c.requires, ap length c.self.view_is, length-map (take p codes) (held_code g.F.FiniteField), length-take p codes, c.self.told) in
     let f = polynomial A (take (p + 1) codes) in
-    let held : Holds A codes p c.args.self.now = record { front = c.self.view_is; zeros = c.self.invariant.1 } in
-    let same = held_front (laws g) held (p + 1) (omega arith) in
-    written_places A (shifted A c.args.c f) codes c.loop-slot.slot-items (p + 1) c.loop-slot.slot-index (omega arith) (omega (arith, short, c.self.told)) c.loop-slot.invariant.0
-    (omega arith) (shifted_null (laws g) c.args.c f (p + 1) (λ i l. same i ∙ held_past (laws g) held i (omega arith))) n
+    let self-held = held g (goal.at.returns-clause-shifted g c).After-self in
+    let same = held_front (laws g) self-held (p + 1) (omega arith) in
+    written_places A (shifted A c.args.c f) codes c.loop-slot.slot-items (p + 1) c.loop-slot.slot-index (omega arith)
+    (omega (arith, short g (goal.at.returns-clause-shifted g c).After-self, c.self.told)) c.loop-slot.invariant.0 (omega arith)
+    (shifted_null (laws g) c.args.c f (p + 1) (λ i l. same i ∙ held_past (laws g) self-held i (omega arith))) n
     ∙ shifted_same (laws g) c.args.c f c.args.self.now same n
