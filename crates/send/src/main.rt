@@ -1,6 +1,6 @@
+// Reads a block sheet from standard input, and prints the log lines that a sender gives out for it.
 #![tactic(auto)]
 
-// Reads a block sheet from standard input, and prints the log lines that a sender gives out for it.
 #[cfg(test)]
 mod tests;
 

@@ -1,5 +1,5 @@
 -- Sheets, read and printed one line after another.
-use Rattle.std.proofs.Common.{◌≡◌, ℕ, ◌+◌, ◌≤◌, List, [], ◌∷◌, ◌++◌, length, drop, Ok, Err, Result, sym, refl, ap, ◌∙◌, append_assoc, append-nil, arith, length-drop}
+use Rattle.std.proofs.Common.{◌≡◌, ℕ, ◌+◌, ◌≤◌, List, ◌∷◌, ◌++◌, length, drop, Ok, Err, Result, sym, refl, ap, ◌∙◌, append_assoc, arith, length-drop}
 use Rattle.std.specs.List.{flat_map}
 use Rattle.std.specs.Result.{result_map_both}
 use Rattle.field.specs.Alphabet.{Alphabet}
@@ -10,7 +10,7 @@ use Rattle.portal_log.specs.Text.{parts}
 use Rattle.portal_log.specs.Views.{left_lines}
 use Rattle.portal_log.proofs.Cuts.{length_lines}
 use Rattle.sending.specs.Outcomes.{and_then, onto}
-use Rattle.sending.specs.Blocks.{refusal_line, printed, block_of, block_text, blocks_text}
+use Rattle.sending.specs.Blocks.{printed, block_of, block_text, blocks_text}
 
 -- no more lines are left than bytes
 pub left_few : (s : Lines) → length (left_lines s) ≤ length s.text.now
@@ -33,13 +33,3 @@ module _ {K S : Type 0} (A : Alphabet K S) (name : FieldName) (k ℓ : ℕ) wher
     printed_more text more t is at =
         let rest = blocks_text A name k ℓ (n + 1) more in
         printed_onto first t rest ∙ ap (λ r. printed first (onto (answer n r) rest)) (sym at) ∙ ap (λ texts. printed first (blocks_text A name k ℓ n texts)) (sym is)
-
-    pub printed_stops : (text : List ℕ) (more : List (List ℕ)) (refusal : Refusal) → left ≡ text ∷ more → and_then (block_of A name (parts text)) (block_text A name k ℓ) ≡ Err refusal →
-        refusal_line refusal n ≡ printed first (blocks_text A name k ℓ n left)
-    unfolding answer
-    printed_stops text more refusal is at =
-        let rest = blocks_text A name k ℓ (n + 1) more in
-        ap (λ r. printed first (onto (answer n r) rest)) (sym at) ∙ ap (λ texts. printed first (blocks_text A name k ℓ n texts)) (sym is)
-
-    pub printed_ends : left ≡ [] → first ≡ printed first (blocks_text A name k ℓ n left)
-    printed_ends is = sym (append-nil first) ∙ ap (λ texts. printed first (blocks_text A name k ℓ n texts)) (sym is)

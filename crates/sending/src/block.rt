@@ -1,5 +1,5 @@
 // The lines of a block sheet: a block's number and its message.
-ghost use Rattle.std.specs.Prelude.{◌≡◌, vec_items};
+ghost use Rattle.std.specs.Prelude.{vec_items};
 ghost use Rattle.field.specs.Alphabet.{alphabet};
 ghost use Rattle.portal_log.specs.Text.{parts};
 ghost use Rattle.sending.specs.Outcomes.{Answers};

@@ -3,4 +3,3 @@ pub mod Counts
 pub mod Lines
 pub mod Progress
 pub mod Starts
-pub mod Whole

@@ -10,8 +10,8 @@ use Rattle.collector.specs.Runs.{State, Represents}
 use Rattle.collector.specs.Laws.{PlainRun}
 use Rattle.portal_log.specs.declared.name.FieldName.{FieldName}
 use Rattle.log_feed.specs.Numbered.{log_packets}
-use Rattle.sheet.specs.Outcomes.{Outcome, taken, passed, number_calls, calls_from, total_taken, total_passed, Standing, NumberDone}
-use Rattle.sheet.specs.Sheets.{number_line, lines_from, NumbersText}
+use Rattle.sheet.specs.Outcomes.{Outcome, taken, passed, number_calls, calls_from, total_taken, total_passed, NumberDone}
+use Rattle.sheet.specs.Sheets.{number_line, lines_from}
 
 module _ {K S : Type 0} (A : Alphabet K S) (k ℓ : ℕ) where
   -- one run after another
@@ -77,9 +77,6 @@ module _ {K S : Type 0} (A : Alphabet K S) (name : FieldName) where
       few = omega arith;
     }
 
-    pub progress_stands : {b : ℕ} {s : State S} {text : List ℕ} {kept over : ℕ} → Progress k ℓ log b s text kept over → Standing A b s
-    progress_stands {b} p = record { k = k; ℓ = ℓ; later = p.later; machine = p.machine; represents = p.represents; is_shut = p.shut_on b (omega arith) }
-
     pub progress_more : {b : ℕ} {s t : State S} {text : List ℕ} {kept over : ℕ} (p : Progress k ℓ log b s text kept over) (o : Outcome S) (more fewer : ℕ)
         → NumberDone A k ℓ p.later p.machine b (log_packets A name b log) o t → length o.output ≡ k → more ≡ taken o.drain
         → fewer ≡ passed (length (log_packets A name b log)) o.drain → more + fewer ≤ feed_limit
@@ -103,12 +100,3 @@ module _ {K S : Type 0} (A : Alphabet K S) (name : FieldName) where
           is_passed = omega (arith, p.is_passed, passed_more feeds 0 b os o at);
           few = omega (arith, p.few);
         }
-
-    pub progress_end : {b : ℕ} {s : State S} {text : List ℕ} {kept over : ℕ} → Progress k ℓ log b s text kept over → b ≡ 8 → NumbersText A name k ℓ log text kept over
-    progress_end p e = record {
-      outcomes = p.outcomes;
-      run = record { eight = p.many ∙ e; places = p.places; machine = p.machine; runs = p.runs };
-      is_text = p.is_text;
-      is_taken = p.is_taken;
-      is_passed = p.is_passed;
-    }

@@ -1,8 +1,7 @@
 // What came of the eight numbers of a log, by a session over the numbers' feeds.
-ghost use Rattle.std.specs.Prelude.{◌≡◌, ℕ, ◌+◌, ◌*◌, ◌<◌, ◌≤◌, true, List, length, IfOk, string_bytes};
+ghost use Rattle.std.specs.Prelude.{◌≡◌, ℕ, ◌+◌, ◌<◌, ◌≤◌, List, length, IfOk, string_bytes};
 ghost use Rattle.field.specs.Alphabet.{alphabet};
 ghost use Rattle.packet.specs.declared.Packet.{Packet as PacketOf};
-ghost use Rattle.subspace_code.specs.Encoding.{fits};
 ghost use Rattle.collector.specs.Machine.{Machine, shut};
 ghost use Rattle.collector.specs.Runs.{Represents};
 ghost use Rattle.feed.specs.Feeds.{feed_limit};

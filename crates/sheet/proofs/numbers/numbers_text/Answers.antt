@@ -1,11 +1,10 @@
-use Rattle.std.proofs.Common.{◌*◌, ◌≤◌, ◌≡◌, ◌+◌, [], length, string_bytes, sym, ◌∙◌, subst, arith}
+use Rattle.std.proofs.Common.{◌*◌, ◌≤◌, ◌≡◌, ◌+◌, [], length, sym, ◌∙◌, subst, arith}
 use Rattle.field.specs.Alphabet.{Alphabet}
 use Rattle.field.proofs.Members.{alphabet}
 use Rattle.collector.specs.Session.{Started}
 use Rattle.collector.specs.Runs.{State}
 use Rattle.sheet.specs.Outcomes.{Outcome}
-use Rattle.sheet.specs.Sheets.{NumbersText}
-use Rattle.sheet.proofs.Progress.{Progress, progress_start, progress_stands, progress_more, progress_end}
+use Rattle.sheet.proofs.Progress.{Progress, progress_start, progress_more}
 use Rattle.sheet.proofs.Starts.{unrefused_is_ok, start_not_refused}
 use Rattle.sheet.proofs.numbers.numbers_text.Given as given
 use Rattle.sheet.proofs.numbers.numbers_text.Goals as goal
@@ -31,12 +30,6 @@ loop-number-init g c =
     subst (λ t. Progress (A g) g.F.LogField.NAME s.k s.l log 0 begun t 0 0) (sym c.new-text.ensures.bytes)
     (progress_start (A g) g.F.LogField.NAME s.k s.l log _ begun (c.start.ensures.faithful s c.unwrap-session.ensures [] tt))
 
-pub collect_number-outcome-requires : goal.collect_number-outcome-requires
-unfolding A
-collect_number-outcome-requires g c =
-    let s = c.unwrap-session.result in
-    record { below = c.loop-number-test.true; stands = progress_stands (A g) g.F.LogField.NAME s.k s.l c.args.log.now.bytes.now c.loop-number.invariant }
-
 pub loop-number-preserved : goal.loop-number-preserved
 unfolding A
 loop-number-preserved g c =
@@ -54,16 +47,3 @@ loop-number-preserved g c =
     subst (λ t. Progress (A g) name s.k s.l log (b + 1) (record { session = got.new.session; rows = got.new.rows }) t (c.loop-number.taken + counted.kept) (c.loop-number.passed + counted.passed))
     (sym c.in_ok-write_number.ensures)
     (progress_more (A g) name s.k s.l log p o counted.kept counted.passed done long got.ensures.taken got.ensures.passed got.ensures.few)
-
-pub returns : goal.returns
-unfolding A
-returns g c =
-    let s = c.unwrap-session.result in
-    let name = g.F.LogField.NAME in
-    let log = c.args.log.now in
-    let started = subst (λ r. Started (A g) log.head.k log.head.l c.deref_mut.result.now r c.start.new.rows) c.unwrap-session.ensures c.start.ensures.started in
-    let end : c.loop-number.number ≡ 8 = omega (arith, c.loop-number-test.false, c.loop-number.auto.number-end) in
-    let text = string_bytes c.loop-number.text in
-    subst (λ k. NumbersText (A g) name k log.head.l log.bytes.now text c.loop-number.taken c.loop-number.passed) started.1
-    (subst (λ l. NumbersText (A g) name s.k l log.bytes.now text c.loop-number.taken c.loop-number.passed) started.2
-    (progress_end (A g) name s.k s.l log.bytes.now c.loop-number.invariant end))
