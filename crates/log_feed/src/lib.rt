@@ -88,11 +88,6 @@ impl<'a, F: LogField> Feed for LogFeed<'a, F> {
     }
 
     fn next(&mut self) -> Option<Packet<F>> {
-        while let Some(line) = self.reader.next() {
-            if let Some(packet) = with_number(self.number, line) {
-                return Some(packet);
-            }
-        }
-        None
+        self.reader.find_map(|line| with_number(self.number, line))
     }
 }
