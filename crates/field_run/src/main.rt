@@ -12,7 +12,7 @@ use std::env;
 
 // How many symbols there are.
 fn size<F: SymbolField>() -> u32
-    ensures { result ≡ F.q ^ F.m }
+    ensures { result ≡ F.ORDER ^ F.DEGREE }
 {
     F::ORDER.pow(F::DEGREE as u32)
 }
