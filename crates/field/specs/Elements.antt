@@ -1,6 +1,6 @@
 -- Elements of a field that computes by codes: what an element is, told by its code.
 -- Assumes nothing.
-use Rattle.std.specs.Prelude.{◌≡◌, ℕ, ◌≢◌, Some, None, bit_xor, refl}
+use Rattle.std.specs.Prelude.{◌≡◌, ℕ, ◌<◌, ◌≢◌, Some, None, bit_xor, refl}
 use Rattle.std.proofs.Common.{sym, ap, ◌∙◌}
 use Rattle.linear.specs.Field.{Field, reciprocal, reciprocal_if}
 use Rattle.binary.specs.Coded.{Coded, ByCodes}
@@ -40,11 +40,11 @@ module _ {X : Type 0} {size : ℕ} {C : Coded X size} {mul : ℕ → ℕ → ℕ
       none (no q) = absurd (q (is_zero x e))
 
   -- what gives one when multiplied by x is the inverse of x
-  pub is_inverse : (r x : X) → C.code x ≢ 0 → mul (C.code x) (C.code r) ≡ 1 → Some r ≡ reciprocal F x
-  is_inverse r x q e = some (F.same? x F.zero)
+  pub is_inverse : (r x : X) (a : ℕ) → r ≡ C.make a → a < size → C.code x ≢ 0 → mul (C.code x) a ≡ 1 → Some r ≡ reciprocal F x
+  is_inverse r x a p l q e = some (F.same? x F.zero)
     where
       one : F.mul x r ≡ F.one
-      one = is_one (F.mul x r) (P.mul_code x r ∙ e)
+      one = is_one (F.mul x r) (P.mul_code x r ∙ ap (mul (C.code x)) (ap C.code p ∙ code_made C a l) ∙ e)
 
       some : (d : Dec (x ≡ F.zero)) → Some r ≡ reciprocal_if F x d
       some (yes z) = absurd (q (ap C.code z ∙ P.zero_code))
