@@ -1,8 +1,8 @@
 // Row adding: rows in reduced form, changed in place, at every kind of row.
-ghost use Rattle.std.specs.Prelude.{◌≡◌, ◌+◌, ◌-◌, ◌<◌, ◌≤◌, ◌∷◌, ◌++◌, map, length, take, drop};
+ghost use Rattle.std.specs.Prelude.{◌≡◌, ◌+◌, ◌<◌, ◌≤◌, ◌++◌, map, length, take, drop};
 ghost use Rattle.std.specs.List.{insert as inserted};
 ghost use Rattle.linear.specs.Rows.{minus, cleared};
-ghost use Rattle.linear.specs.Span.{Each, Span};
+ghost use Rattle.linear.specs.Span.{Span};
 ghost use Rattle.linear.specs.Reduced.{Reduced};
 ghost use Rattle.collector.specs.Places.{FirstFrom, Remains, Slot};
 ghost use Rattle.collector.specs.Windows.{Window, Added};
@@ -61,7 +61,7 @@ fn slot<R: Row>(rows: &[R], p: usize) -> usize
     rows.len()
 }
 
-// Makes rows zero at place p, where `unit` is one.
+// Makes the rows zero at place p, where `unit` is one.
 fn clear<R: Row>(rows: &mut [R], p: usize, unit: R)
     ensures { rows.new ≡ map (cleared R.Scalar.field R.rows unit p) rows.old }
 {

@@ -1,5 +1,5 @@
 // Measuring: the dimension of what a message leaves of the packets taken.
-ghost use Rattle.std.specs.Prelude.{◌≡◌, ◌<◌, map};
+ghost use Rattle.std.specs.Prelude.{◌≡◌, map};
 ghost use Rattle.linear.specs.Span.{Span, IsDim};
 ghost use Rattle.field.specs.Alphabet.{alphabet, symbol_rows};
 ghost use Rattle.linearized.specs.Code.{residual};
