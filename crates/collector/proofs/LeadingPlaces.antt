@@ -1,7 +1,8 @@
 -- Leading places of the rows of a reduced list, found one after another.
 --   From L k a    no row of L from the k-th on leads before a
-use Rattle.std.proofs.Common.{◌≡◌, ℕ, ◌+◌, ◌<◌, ◌≤◌, List, length, get_or, sym, ap, ◌∙◌, arith}
+use Rattle.std.proofs.Common.{◌≡◌, ℕ, ◌+◌, ◌<◌, ◌≤◌, List, length, get_or, sym, ap, ◌∙◌, subst, arith}
 use native.Mathlib.Decide.{dec_lt}
+use Rattle.std.proofs.lemmas.List.{get_or_read}
 use Rattle.linear.specs.Field.{Field}
 use Rattle.linear.specs.Rows.{Rows}
 use Rattle.linear.specs.Reduced.{Leads, Reduced}
@@ -21,6 +22,10 @@ module _ {K V : Type 0} (F : Field K) (R : Rows K V) where
       at (yes h) d = absurd (F.one_not_zero (sym lp.1 ∙ lq.2 p h))
       at (no h) (yes k) = absurd (F.one_not_zero (sym lq.1 ∙ lp.2 q k))
       at (no h) (no k) = omega arith
+
+  -- a row of a list, as the list has it
+  pub first_at : (L : List V) (k : ℕ) (v : V) {a p : ℕ} → k < length L → v ≡ get_or L k v → FirstFrom F R v a p → FirstFrom F R (get_or L k none) a p
+  first_at L k v {a} {p} h is f = subst (λ u. FirstFrom F R u a p) (get_or_read L k v h is none) f
 
   -- the first place where a row that leads is not zero is where it leads
   pub first_leads : {v : V} {a p q : ℕ} → FirstFrom F R v a p → Leads F R v q → a ≤ q → p ≡ q

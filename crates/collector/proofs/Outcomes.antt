@@ -70,9 +70,6 @@ module _ {K V : Type 0} {F : Field K} {R : Rows K V} (laws : RowLaws F R) where
   pub first_wide : {r : V} {p : ℕ} → FirstFrom F R r 0 p → R.width ≤ p → r ≡ none
   first_wide {r} f h = laws.same r none (λ i l. f.before i (omega arith) (omega arith) ∙ sym (laws.coord_none i))
 
-  pub first_inside : {r : V} {p : ℕ} → FirstFrom F R r 0 p → p < R.width → ¬ (r ≡ none)
-  first_inside {p = p} f h e = f.some h (ap (λ x. coord x p) e ∙ laws.coord_none p)
-
   pub first_none : {r : V} {p : ℕ} → FirstFrom F R r 0 p → coord r p ≡ F.zero → r ≡ none
   first_none {r} {p} f z = at (dec_lt p R.width)
     where

@@ -1,8 +1,7 @@
 use Rattle.std.proofs.Common.{◌+◌, sym, ap, ◌∙◌, subst, arith}
 use Rattle.std.proofs.lemmas.List.{get_or_read}
 use Rattle.linear.specs.Rows.{minus}
-use Rattle.collector.specs.Places.{FirstFrom}
-use Rattle.collector.proofs.LeadingPlaces.{from_start, from_inside, from_step}
+use Rattle.collector.proofs.LeadingPlaces.{first_at, from_start, from_inside, from_step}
 use Rattle.collector.proofs.Remainders.{Remaining, remaining_start, remaining_step, remaining_end}
 use Rattle.collector.proofs.adding.remainder.Goals as goal
 
@@ -14,8 +13,7 @@ pub overflow_add-from : goal.overflow_add-from
 overflow_add-from g c =
     let F = g.R.Scalar.FiniteField.field in
     let R = g.R.Row.rows in
-    let read = get_or_read c.args.rows.now c.loop-pivot.pivot-index c.pivot-item.result c.loop-pivot-test.true c.pivot-item.is R.none in
-    let first = subst (λ v. FirstFrom F R v c.loop-pivot.from c.leading-p.result) read c.leading-p.ensures in
+    let first = first_at F R c.args.rows.now c.loop-pivot.pivot-index c.pivot-item.result c.loop-pivot-test.true c.pivot-item.is c.leading-p.ensures in
     omega (arith, from_inside F R c.requires c.loop-pivot.invariant.0 c.loop-pivot-test.true first, g.met.R.Row.narrow)
 
 pub loop-pivot-preserved : goal.loop-pivot-preserved
@@ -27,7 +25,7 @@ loop-pivot-preserved g c =
     let rest = c.loop-pivot.rest in
     let inside = c.loop-pivot-test.true in
     let read = get_or_read L k c.pivot-item.result inside c.pivot-item.is R.none in
-    let first = subst (λ v. FirstFrom F R v c.loop-pivot.from c.leading-p.result) read c.leading-p.ensures in
+    let first = first_at F R L k c.pivot-item.result inside c.pivot-item.is c.leading-p.ensures in
     let is = c.less-rest.ensures ∙ ap (λ s. minus F R rest s c.pivot-item.result) c.coordinate.ensures ∙ ap (minus F R rest (R.coord rest c.leading-p.result)) read in (
       from_step F R c.requires c.loop-pivot.invariant.0 inside first,
       subst (λ v. Remaining F R L c.args.row v (k + 1)) (sym is) (remaining_step g.met.R.Row.laws c.requires c.loop-pivot.invariant.1 c.loop-pivot.invariant.0 inside first),

@@ -2,7 +2,7 @@ use Rattle.std.proofs.Common.{sym, refl, ap, ◌∙◌, subst, arith}
 use borrow.Author.Tests.{both_ways, clash}
 use Rattle.std.proofs.lemmas.List.{get_or_read}
 use Rattle.linear.specs.Reduced.{Leads}
-use Rattle.collector.specs.Places.{FirstFrom}
+use Rattle.collector.proofs.LeadingPlaces.{first_at}
 use Rattle.collector.proofs.Checks.{checked_start, one_leads, checked_step, checked_end, passes}
 use Rattle.collector.proofs.window.is_reduced.Goals as goal
 use Rattle.collector.proofs.window.is_reduced.Goals.{then-p-from-via-then-p-from, then-p-from-via-else-p-from+then-not-is_one, then-p-from-via-else-p-from+else-not-is_one+then-not-zero_at}
@@ -20,7 +20,7 @@ returns-then-p-from g c =
     let read = get_or_read L c.loop-k.k c.index-rows-k.result inside c.index-rows-k.is R.none in (
       λ e. absurd (clash e),
       λ red.
-          let w = passes g.met.R.Row.laws L c.loop-k.invariant inside (subst (λ v. FirstFrom F R v 0 p) read c.leading-p.ensures) red in
+          let w = passes g.met.R.Row.laws L c.loop-k.invariant inside (first_at F R L c.loop-k.k c.index-rows-k.result inside c.index-rows-k.is c.leading-p.ensures) red in
           let no_way : ⊥ = elim c.then-p-from.branch [
             | then-p-from-via-then-p-from x ↦ omega (arith, w.low, x.if-p-from.true)
             | then-p-from-via-else-p-from+then-not-is_one x ↦ both_ways _ x.if-not-is_one.true (x.is_one.ensures.1 (x.coordinate.ensures ∙ ap (λ v. R.coord v p) read ∙ w.one))
