@@ -7,10 +7,6 @@ pub answered_ok : {A : Type 0} (refusal : Option Refusal) (a b : A) → answered
 answered_ok None a b e = refl
 answered_ok (Some r) a b e = let z : ◌≡◌ {A = ℕ} 0 1 = cc in absurd (let y : ⊥ = omega arith in y)
 
-pub answered_err : {A : Type 0} (refusal : Option Refusal) (a : A) (e : Refusal) → answered refusal a ≡ Err e → refusal ≡ Some e
-answered_err None a e h = let z : ◌≡◌ {A = ℕ} 0 1 = cc in absurd (let y : ⊥ = omega arith in y)
-answered_err (Some r) a e h = cc
-
 -- where no cause applies, the first does not, nor does a later one
 pub no_cause : (b : Bool) (e : Refusal) (causes : List (Bool × Refusal)) → first_cause ((b, e) ∷ causes) ≡ None → (b ≡ false) × (first_cause causes ≡ None)
 no_cause true e causes h = let z : ◌≡◌ {A = ℕ} 0 1 = cc in absurd (let y : ⊥ = omega arith in y)

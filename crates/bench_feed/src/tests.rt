@@ -12,10 +12,8 @@ use packet::Packet;
 use std::alloc::{AllocError, Global};
 use std::test::Fail;
 
-fn packet<F: SymbolField>(x: u32, y: u32) -> Result<Packet<F>, Fail> {
-    let x = F::from_code(x).ok_or("no symbol has this code")?;
-    let y = F::from_code(y).ok_or("no symbol has this code")?;
-    Ok(Packet { x, y })
+fn packet<F: FiniteField>(x: u32, y: u32) -> Result<Packet<F>, Fail> {
+    Ok(Packet::from_codes(x, y).ok_or("no packet has these codes")?)
 }
 
 // Whoever lends a feed to a layer knows that it is empty once the layer is.

@@ -32,14 +32,6 @@ pub record Filling {K S : Type 0} (A : Alphabet K S) (ℓ : ℕ) (L all rest M :
   pub gives : DrainAnswer A ℓ seen answer
 
 module _ {K S : Type 0} {A : Alphabet K S} (laws : Lawful A) (ℓ : ℕ) {L all : List (Packet S)} where
-  pub filling_start : (d : ℕ) → PacketWindow A ℓ d L → Filling A ℓ L all all L d (record { kept = 0; passed = 0 })
-  filling_start d w = record {
-    seen = [];
-    split = refl;
-    window = w;
-    spans = subst (SameSpan (packet_rows A) L) (sym (append-nil L)) (λ v. (λ s. s, λ s. s));
-    gives = record { is_kept = refl; all = refl };
-  }
 
   pub filling_pass : {rest after M : List (Packet S)} {d n k : ℕ} (p : Packet S) → rest ≡ p ∷ after → A.q ^ ℓ ≤ A.code p.x
       → Filling A ℓ L all rest M d (record { kept = n; passed = k }) → Filling A ℓ L all after M d (record { kept = n; passed = k + 1 })

@@ -30,10 +30,6 @@ module _ {K V : Type 0} {F : Field K} {R : Rows K V} (laws : RowLaws F R) where
       at (suc n) zero = refl
       at (suc n) (suc i) = at n i
 
-  -- the first rows of a window are the reduced form of the space
-  pub window_form : {d : ℕ} {L : List V} {U : V → Type 0} → Window F R d L → Spans R L U → ReducedForm F R U (take d L)
-  window_form w s = (w.reduced, λ v. (λ x. (s v).0 ((window_span laws w v).0 x), λ x. (window_span laws w v).1 ((s v).1 x)))
-
 module _ {K S : Type 0} {A : Alphabet K S} (laws : Lawful A) (ℓ : ℕ) (fits : ℓ ≤ A.m) where
   -- ℓ + m rows suffice for packets with x codes below q^ℓ
   pub packet_room : {d : ℕ} {L : List (Packet S)} {p : Packet S} → PacketWindow A ℓ d L → ℓ + A.m ≤ length L → HeaderBelow A ℓ p → ¬ Span (packet_rows A) L p → d < length L

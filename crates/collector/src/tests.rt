@@ -8,10 +8,6 @@ use packet::Packet;
 use std::process::Abort;
 use std::test::Fail;
 
-fn element<F: FiniteField>(code: u32) -> Result<F, Fail> {
-    Ok(F::from_code(code).ok_or("no element has this code")?)
-}
-
 // The dimension of the packets; their reduced form is left in the rows, which are 2m at least.
 fn reduce<F: SymbolField>(rows: &mut [Packet<F>], packets: &[Packet<F>]) -> usize {
     clear(rows);
@@ -26,11 +22,8 @@ fn reduce<F: SymbolField>(rows: &mut [Packet<F>], packets: &[Packet<F>]) -> usiz
     dimension
 }
 
-fn packet<F: SymbolField>(x: u32, y: u32) -> Result<Packet<F>, Fail> {
-    Ok(Packet {
-        x: element(x)?,
-        y: element(y)?,
-    })
+fn packet<F: FiniteField>(x: u32, y: u32) -> Result<Packet<F>, Fail> {
+    Ok(Packet::from_codes(x, y).ok_or("no packet has these codes")?)
 }
 
 // The packets have the reduced form `form`, in the order given and in the other.

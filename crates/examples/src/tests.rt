@@ -17,11 +17,8 @@ fn element<F: FiniteField>(code: u32) -> Result<F, Fail> {
     Ok(F::from_code(code).ok_or("no element has this code")?)
 }
 
-fn packet<F: SymbolField>(x: u32, y: u32) -> Result<Packet<F>, Fail> {
-    Ok(Packet {
-        x: element(x)?,
-        y: element(y)?,
-    })
+fn packet<F: FiniteField>(x: u32, y: u32) -> Result<Packet<F>, Fail> {
+    Ok(Packet::from_codes(x, y).ok_or("no packet has these codes")?)
 }
 
 // The first rows have these codes.

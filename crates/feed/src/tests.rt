@@ -11,10 +11,8 @@ use packet::Packet;
 use std::process::Abort;
 use std::test::Fail;
 
-fn packet<F: SymbolField>(x: u32, y: u32) -> Result<Packet<F>, Fail> {
-    let x = F::from_code(x).ok_or("no symbol has this code")?;
-    let y = F::from_code(y).ok_or("no symbol has this code")?;
-    Ok(Packet { x, y })
+fn packet<F: FiniteField>(x: u32, y: u32) -> Result<Packet<F>, Fail> {
+    Ok(Packet::from_codes(x, y).ok_or("no packet has these codes")?)
 }
 
 fn three() -> Result<[Packet<Octet>; 3], Fail> {

@@ -7,9 +7,6 @@ use Rattle.field.specs.Alphabet.{Alphabet, Lawful}
 pub of_code_some : {X : Type 0} (size : ℕ) (element : ℕ → X) (n : ℕ) → n < size → of_code size element n ≡ Some (element n)
 of_code_some size element n h = ap (λ b. cond b (Some (element n)) None) (lt-ltb n size h)
 
-pub of_code_none : {X : Type 0} (size : ℕ) (element : ℕ → X) (n : ℕ) → size ≤ n → of_code size element n ≡ None
-of_code_none size element n h = ap (λ b. cond b (Some (element n)) None) (le-ltb n size h)
-
 -- what a code that has an element tells
 pub of_code_is : {X : Type 0} (size : ℕ) (element : ℕ → X) (n : ℕ) (x : X) → of_code size element n ≡ Some x → (n < size) × (x ≡ element n)
 of_code_is size element n x = go (ltb n size) refl

@@ -17,10 +17,6 @@ module _ {X : Type 0} (P : X → Type 0) where
   each_from d [] f = tt
   each_from d (x ∷ xs) f = (f zero (omega arith), each_from d xs (λ i h. f (suc i) (omega arith)))
 
-  -- x is what stands at i
-  pub each_read : (xs : List X) (i : ℕ) (x : X) → Each P xs → i < length xs → x ≡ get_or xs i x → P x
-  each_read xs i x e h r = subst P (sym r) (each_at x xs e i h)
-
   pub each_set : (xs : List X) (i : ℕ) (x : X) → Each P xs → P x → Each P (set xs i x)
   each_set [] i x e p = tt
   each_set (y ∷ xs) zero x (q, e) p = (p, e)
@@ -42,19 +38,6 @@ module _ {X : Type 0} (P : X → Type 0) where
 
   pub each_push : (xs : List X) (x : X) → Each P xs → P x → Each P (xs ++ (x ∷ []))
   each_push xs x e p = each_append xs (x ∷ []) e (p, tt)
-
-  -- a loop that tests each element
-  pub each_more : (xs : List X) (i : ℕ) (d : X) → i < length xs → Each P (take i xs) → P (get_or xs i d) → Each P (take (i + 1) xs)
-  each_more xs i d h e p = subst (Each P) (sym (take_more xs i d h)) (each_push (take i xs) (get_or xs i d) e p)
-
-  pub each_all : (xs : List X) (i : ℕ) → length xs ≤ i → Each P (take i xs) → Each P xs
-  each_all xs i h e = subst (Each P) (take_all i xs h) e
-
-  -- x put at place i, as `insert` leaves the list
-  pub each_inserted : (i n m : ℕ) (x : X) (xs : List X) → P x → Each P xs → Each P (take i xs ++ (x ∷ take n (drop i xs)) ++ drop m xs)
-  each_inserted i n m x xs p e =
-      each_append (take i xs ++ (x ∷ take n (drop i xs))) (drop m xs)
-      (each_append (take i xs) (x ∷ take n (drop i xs)) (each_take i xs e) (p, each_take n (drop i xs) (each_drop i xs e))) (each_drop m xs e)
 
 pub each_map : {X : Type 0} (P Q : X → Type 0) (xs : List X) → ((x : X) → P x → Q x) → Each P xs → Each Q xs
 each_map P Q [] f e = tt

@@ -41,9 +41,6 @@ module _ {S : Type 0} (G : Field S) where
 module _ {K S : Type 0} (A : Alphabet K S) (B R : List S) (c : S) (p : ℕ) where
   open A use {symbols as G, frobenius}
 
-  pub taken_none : TakenOff A B R R c p 0
-  taken_none = record { low = λ k l. refl; taken = λ i l. absurd (omega arith); high = λ k l. refl }
-
   pub taken_more : (T U : List S) (n : ℕ) → TakenOff A B R T c p n →
       at G U (p + n) ≡ G.add (at G T (p + n)) (G.neg (G.mul (at G B n) (iterate frobenius n c))) →
       ((k : ℕ) → ¬ (k ≡ p + n) → at G U k ≡ at G T k) → TakenOff A B R U c p (n + 1)
