@@ -1,11 +1,11 @@
--- One call of `next` on a held feed, and on a join or a stir from the calls on what lies below.
+-- A fresh join, and one call of `next` on a held feed, and on a join or a stir from the calls on what lies below.
 use Rattle.std.proofs.Common.{◌≡◌, ℕ, zero, suc, ◌+◌, ◌-◌, ◌<◌, ◌≤◌, List, [], ◌∷◌, ◌++◌, length, min, take, Some, None, Option, sym, refl, ap, subst, ◌∙◌, take_all, arith}
 use Rattle.std.proofs.lemmas.List.{nil_from_length, take_min}
 use Rattle.std.specs.Option.{MatchOption}
 use Rattle.field.specs.Alphabet.{Alphabet}
 use Rattle.packet.specs.declared.Packet.{Packet}
 use Rattle.feed.specs.Feeds.{feed_limit, Next}
-use Rattle.feed.specs.Layers.{held, mixed, stirred, stirred_after}
+use Rattle.feed.specs.Layers.{held, joined, mixed, stirred, stirred_after}
 use Rattle.feed.specs.Lists.{stir_from, join_from}
 use Rattle.feed.specs.Lengths.{held_short}
 use Rattle.feed.proofs.Nexts.{gives_some, gives_none, some_given, none_given}
@@ -46,6 +46,10 @@ module _ {P : Type 0} where
 
   within_limit : (given : ℕ) (ps rs : List P) (r : Option P) → given < feed_limit → Next ps r rs → Next (take (feed_limit - given) ps) r (take (feed_limit - (given + 1)) rs)
   within_limit given ps rs r h n = let e : feed_limit - given ≡ suc (feed_limit - (given + 1)) = omega arith in rw e (take_gives (feed_limit - (given + 1)) ps rs r n)
+
+  pub join_fresh : (ps rs : List P) → join_from 0 ps rs ≡ joined ps rs
+  unfolding join_from joined
+  join_fresh ps rs = refl
 
   pub join_full : (given : ℕ) (ps rs : List P) → feed_limit ≤ given → Next (join_from given ps rs) None (join_from given ps rs)
   unfolding join_from
