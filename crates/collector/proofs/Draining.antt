@@ -32,7 +32,6 @@ pub record Filling {K S : Type 0} (A : Alphabet K S) (ℓ : ℕ) (L all rest M :
   pub gives : DrainAnswer A ℓ seen answer
 
 module _ {K S : Type 0} {A : Alphabet K S} (laws : Lawful A) (ℓ : ℕ) {L all : List (Packet S)} where
-
   pub filling_pass : {rest after M : List (Packet S)} {d n k : ℕ} (p : Packet S) → rest ≡ p ∷ after → A.q ^ ℓ ≤ A.code p.x
       → Filling A ℓ L all rest M d (record { kept = n; passed = k }) → Filling A ℓ L all after M d (record { kept = n; passed = k + 1 })
   filling_pass {M = M} p next high f =
