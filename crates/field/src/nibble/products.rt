@@ -30,6 +30,7 @@ fn times_z(b: Nibble) -> Nibble
     }
 }
 
+// The digit d times b.
 fn scale(d: HexDigit, b: Nibble) -> Nibble
     ensures { result.code ≡ product-over 4 (iterate scale_x) (hex_digits.code d) b.code }
 {
