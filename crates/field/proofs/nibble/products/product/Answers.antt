@@ -1,5 +1,5 @@
 -- Assumes nothing.
-use Rattle.std.proofs.Common.{◌≡◌, ℕ, ◌*◌, ◌^◌, ◌<◌, sym, refl, ap, ◌∙◌, subst, ap₂, arith}
+use Rattle.std.proofs.Common.{◌≡◌, ℕ, ◌*◌, refl, ap, ◌∙◌, ap₂, arith}
 use lib.Bits.{bit_xor}
 use Rattle.linear.specs.Field.{iterate}
 use Rattle.binary.specs.Codes.{product, digit}
@@ -30,7 +30,7 @@ is_product c =
 
 pub invariant_of-result : goal.invariant_of-result
 invariant_of-result c =
-    record { ok = subst (λ (r : ℕ). r < 2 ^ 28) (sym (is_product c)) (nibbles_binary.ring.mul_in c.args.a.code c.args.b.code c.args.a.ok c.args.b.ok) }
+    record { ok = omega (arith, is_product c, nibbles_binary.ring.mul_in c.args.a.code c.args.b.code c.args.a.ok c.args.b.ok) }
 
 pub returns : goal.returns
 returns c = is_product (goal.at.returns c).After-loop-i

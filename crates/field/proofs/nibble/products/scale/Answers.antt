@@ -1,5 +1,5 @@
 -- Assumes nothing.
-use Rattle.std.proofs.Common.{ℕ, ◌^◌, ◌<◌, sym, refl, ap, ◌∙◌, subst, ap₂}
+use Rattle.std.proofs.Common.{refl, ap, ◌∙◌, arith, ap₂}
 use lib.Bits.{bit_xor}
 use Rattle.linear.specs.Field.{iterate}
 use Rattle.binary.specs.Products.{scale_x}
@@ -24,4 +24,4 @@ loop-i-preserved c = (
 
 pub invariant_of-result : goal.invariant_of-result
 invariant_of-result c =
-    record { ok = subst (λ (r : ℕ). r < 2 ^ 28) (sym c.loop-i.invariant.1) (product_less (iterate_linear scale_x_linear) c.loop-i.i c.number-digit.result c.args.b.code c.args.b.ok) }
+    record { ok = omega (arith, c.loop-i.invariant.1, product_less (iterate_linear scale_x_linear) c.loop-i.i c.number-digit.result c.args.b.code c.args.b.ok) }

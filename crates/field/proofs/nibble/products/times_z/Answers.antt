@@ -1,5 +1,5 @@
 -- Assumes nothing.
-use Rattle.std.proofs.Common.{◌≡◌, ℕ, ◌*◌, ◌/◌, ◌%◌, ◌^◌, ◌<◌, sym, subst}
+use Rattle.std.proofs.Common.{◌≡◌, ℕ, ◌*◌, ◌/◌, ◌%◌, ◌^◌, ◌<◌, arith}
 use lib.Bits.{bit_xor, bit_and}
 use Rattle.binary.specs.Products.{times_z}
 use Rattle.binary.proofs.Maps.{Additive, id_additive, xor_additive, mask_additive, shl_additive, shr_additive, mod_additive, additive_adds, agree}
@@ -23,7 +23,7 @@ shifted_is = agree 28 shifted times_z (additive_adds shifted_additive 28) times_
 
 pub invariant_of-result : goal.invariant_of-result
 unfolding shifted
-invariant_of-result c = record { ok = subst (λ (r : ℕ). r < 2 ^ 28) (sym (shifted_is c.args.b.code c.args.b.ok)) (times_z_linear.stays c.args.b.code c.args.b.ok) }
+invariant_of-result c = record { ok = omega (arith, shifted_is c.args.b.code c.args.b.ok, times_z_linear.stays c.args.b.code c.args.b.ok) }
 
 pub returns : goal.returns
 unfolding shifted

@@ -2,7 +2,7 @@
 use Rattle.std.proofs.Common.{◌≡◌, ℕ, ◌+◌, sym, ap, ◌∙◌}
 use Rattle.binary.specs.Codes.{pow}
 use Rattle.binary.specs.Products.{hex_product}
-use Rattle.binary.proofs.Lift.{code_made}
+use Rattle.binary.proofs.Lift.{mul_is}
 use Rattle.binary.proofs.Polynomials.{hex_digits_binary}
 use Rattle.binary.proofs.Powers.{pow_one, power_product}
 use Rattle.field.specs.HexDigit.{hex_digits}
@@ -13,8 +13,7 @@ use Rattle.field.proofs.hex.arithmetic.HexDigitByCode.reciprocal.Goals as goal
 product_power : (a x y r : HexDigit) (j k : ℕ) → r ≡ hex_digits.make (hex_product x.code y.code)
     → x.code ≡ pow hex_product a.code j → y.code ≡ pow hex_product a.code k → r.code ≡ pow hex_product a.code (j + k)
 product_power a x y r j k e p q =
-    ap hex_digits.code e ∙ code_made hex_digits (hex_product x.code y.code) (hex_digits_binary.ring.mul_in x.code y.code x.ok y.ok)
-    ∙ power_product hex_digits_binary.ring a.code a.ok x.code y.code j k p q
+    ap hex_digits.code e ∙ mul_is hex_digits hex_digits_binary x y ∙ power_product hex_digits_binary.ring a.code a.ok x.code y.code j k p q
 
 pub returns : goal.returns
 returns c =
