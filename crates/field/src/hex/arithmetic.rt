@@ -1,5 +1,4 @@
 // The arithmetic of hex digits: polynomials over the bits modulo x ^ 4 + x + 1.
-ghost use Rattle.std.specs.Prelude.{◌≡◌, ◌^◌, ◌<◌, ◌≢◌};
 ghost use Rattle.binary.specs.Products.{hex_product};
 ghost use Rattle.field.specs.HexDigit.{hex_digits};
 ghost use Rattle.binary.proofs.Polynomials.{hex_digits_binary};
@@ -11,27 +10,6 @@ use crate::polynomials;
 
 // x ^ 4, which is x + 1.
 const TAIL: u32 = 0x3;
-
-fn product(a: u8, b: u8) -> u8
-    requires { (a < 2 ^ 4) × (b < 2 ^ 4) }
-    ensures within { result < 2 ^ 4 }
-    ensures value { result ≡ hex_product a b }
-{
-    polynomials::product(4, TAIL, a as u32, b as u32) as u8
-}
-
-// The power 14.
-pub(crate) fn reciprocal(a: u8) -> u8
-    requires { (a < 2 ^ 4) × (a ≢ 0) }
-    ensures within { result < 2 ^ 4 }
-    ensures value { hex_product a result ≡ 1 }
-{
-    let square = product(a, a);
-    let cube = product(a, square);
-    let sixth = product(cube, cube);
-    let seventh = product(a, sixth);
-    product(seventh, seventh)
-}
 
 impl ByCode for HexDigit {
     const BITS: u32 = 4;
@@ -61,14 +39,15 @@ impl ByCode for HexDigit {
     }
 
     fn product(self, other: HexDigit) -> HexDigit {
-        HexDigit {
-            code: product(self.code, other.code),
-        }
+        HexDigit::of(polynomials::product(4, TAIL, self.number(), other.number()))
     }
 
+    // The power 14.
     fn reciprocal(self) -> HexDigit {
-        HexDigit {
-            code: reciprocal(self.code),
-        }
+        let square = self.product(self);
+        let cube = self.product(square);
+        let sixth = cube.product(cube);
+        let seventh = self.product(sixth);
+        seventh.product(seventh)
     }
 }

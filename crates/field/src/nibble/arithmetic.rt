@@ -46,15 +46,11 @@ impl ByCode for Nibble {
     }
 
     fn product(self, other: Nibble) -> Nibble {
-        Nibble {
-            code: product(self.code, other.code),
-        }
+        product(self, other)
     }
 
     fn reciprocal(self) -> Nibble {
-        Nibble {
-            code: reciprocal(self.code),
-        }
+        reciprocal(self)
     }
 }
 
@@ -79,9 +75,7 @@ impl SymbolField for Nibble {
         (lit≤ tt) (lit≤ tt) (lit≤ tt) };
 
     fn raise(self) -> Nibble {
-        Nibble {
-            code: raise(self.code),
-        }
+        raise(self)
     }
 
     fn coordinate(self, i: usize) -> HexDigit {

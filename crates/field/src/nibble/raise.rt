@@ -1,8 +1,9 @@
 // The power 16 of nibbles, by a table of the powers of their digits in base 4.
-ghost use Rattle.std.specs.Prelude.{◌≡◌, ◌^◌, ◌<◌};
+ghost use Rattle.std.specs.Prelude.{◌≡◌};
 ghost use Rattle.binary.specs.Codes.{raise as raised};
 ghost use Rattle.binary.specs.Products.{nibble_product};
 
+use super::Nibble;
 use crate::images::image;
 
 // At [i][d], the power 16 of the digit d at the place i.
@@ -23,10 +24,10 @@ const POWERS: [[u32; 4]; 14] = [
     [0x0000000, 0x4004040, 0x8008080, 0xc00c0c0],
 ];
 
-pub(super) fn raise(a: u32) -> u32
-    requires { a < 2 ^ 28 }
-    ensures within { result < 2 ^ 28 }
-    ensures value { result ≡ raised nibble_product 4 a }
+pub(super) fn raise(a: Nibble) -> Nibble
+    ensures { result.code ≡ raised nibble_product 4 a.code }
 {
-    image(&POWERS, a)
+    Nibble {
+        code: image(&POWERS, a.code),
+    }
 }

@@ -1,29 +1,36 @@
 -- Assumes nothing.
-use Rattle.std.proofs.Common.{◌≡◌, ℕ, ◌*◌, ◌/◌, ◌^◌, ◌<◌, sym, refl, ap, ◌∙◌, subst, ap₂, arith}
-use lib.Bits.{bit_xor, and_mask}
+use Rattle.std.proofs.Common.{◌≡◌, ℕ, ◌*◌, refl, ap, ◌∙◌, ap₂, arith}
+use lib.Bits.{bit_xor}
 use Rattle.linear.specs.Field.{iterate}
 use Rattle.binary.specs.Codes.{product, digit}
 use Rattle.binary.specs.Products.{nibble_product, scale_x, times_z}
 use Rattle.binary.proofs.Nibbles.{place, nibble_step, nibbles_binary}
 use Rattle.binary.proofs.Steps.{iterate_step, product_none}
+use Rattle.field.specs.HexDigit.{hex_digits}
+use Rattle.field.proofs.nibble.products.product.Goals.{After-loop-i}
 use Rattle.field.proofs.nibble.products.product.Goals as goal
 
 pub loop-i-init : goal.loop-i-init
-loop-i-init c = (c.requires.1, refl, product_none place c.args.a c.args.b)
+loop-i-init c = (refl, product_none place c.args.a.code c.args.b.code)
 
 pub loop-i-preserved : goal.loop-i-preserved
 unfolding digit
 loop-i-preserved c =
     let i = c.loop-i.i in
-    let part = c.scale-sum.ensures.value ∙ ap₂ (product 4 (iterate scale_x)) (and_mask (c.args.a / 2 ^ (4 * i)) 4) c.loop-i.invariant.1 in (
-      c.times_z-power.ensures.within,
-      c.times_z-power.ensures.value ∙ ap times_z c.loop-i.invariant.1 ∙ iterate_step times_z i c.args.b,
-      ap₂ bit_xor c.loop-i.invariant.2 part ∙ nibble_step i c.args.a c.args.b,
+    let part = c.scale-sum.ensures ∙ ap₂ (product 4 (iterate scale_x)) (ap hex_digits.code c.of.ensures) c.loop-i.invariant.0 in (
+      c.times_z-power.ensures ∙ ap times_z c.loop-i.invariant.0 ∙ iterate_step times_z i c.args.b.code,
+      ap₂ bit_xor c.loop-i.invariant.1 part ∙ nibble_step i c.args.a.code c.args.b.code,
     )
 
-pub returns : goal.returns
+is_product : (c : After-loop-i) → c.loop-i.sum ≡ nibble_product c.args.a.code c.args.b.code
 unfolding nibble_product
-returns c =
+is_product c =
     let all : c.loop-i.i ≡ 7 = omega arith in
-    let e : c.loop-i.sum ≡ nibble_product c.args.a c.args.b = c.loop-i.invariant.2 ∙ ap (λ (k : ℕ). product (4 * k) place c.args.a c.args.b) all in
-    record { within = subst (λ (r : ℕ). r < 2 ^ 28) (sym e) (nibbles_binary.ring.mul_in c.args.a c.args.b c.requires.0 c.requires.1); value = e }
+    c.loop-i.invariant.1 ∙ ap (λ (k : ℕ). product (4 * k) place c.args.a.code c.args.b.code) all
+
+pub invariant_of-result : goal.invariant_of-result
+invariant_of-result c =
+    record { ok = omega (arith, is_product c, nibbles_binary.ring.mul_in c.args.a.code c.args.b.code c.args.a.ok c.args.b.ok) }
+
+pub returns : goal.returns
+returns c = is_product (goal.at.returns c).After-loop-i

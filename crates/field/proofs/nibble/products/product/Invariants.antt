@@ -1,5 +1,5 @@
 -- Assumes nothing.
-use Rattle.std.proofs.Common.{◌≡◌, ◌*◌, ◌^◌, ◌<◌}
+use Rattle.std.proofs.Common.{◌≡◌, ◌*◌}
 use Rattle.linear.specs.Field.{iterate}
 use Rattle.binary.specs.Codes.{product}
 use Rattle.binary.specs.Products.{times_z}
@@ -8,5 +8,5 @@ use Rattle.field.proofs.nibble.products.product.Given as goal
 
 abbrev pub invariant-loop-i : goal.invariant-loop-i
 invariant-loop-i l =
-    (l.power < 2 ^ 28) × (l.power ≡ iterate times_z l.i l.b)
-    × (l.sum ≡ product (4 * l.i) place l.a l.b)
+    (l.power.code ≡ iterate times_z l.i l.fn.b.code)
+    × (l.sum ≡ product (4 * l.i) place l.a.code l.fn.b.code)

@@ -1,5 +1,5 @@
 -- Assumes nothing.
-use Rattle.std.proofs.Common.{◌≡◌, ◌^◌, ◌<◌}
+use Rattle.std.proofs.Common.{◌≡◌}
 use Rattle.linear.specs.Field.{iterate}
 use Rattle.binary.specs.Codes.{product}
 use Rattle.binary.specs.Products.{scale_x}
@@ -7,5 +7,5 @@ use Rattle.field.proofs.nibble.products.scale.Given as goal
 
 abbrev pub invariant-loop-i : goal.invariant-loop-i
 invariant-loop-i l =
-    (l.power < 2 ^ 28) × (l.power ≡ iterate scale_x l.i l.b)
-    × (l.sum ≡ product l.i (iterate scale_x) l.d l.b)
+    (l.power.code ≡ iterate scale_x l.i l.fn.b.code)
+    × (l.sum ≡ product l.i (iterate scale_x) l.digit l.fn.b.code)

@@ -1,5 +1,5 @@
 -- Assumes nothing.
-use Rattle.std.proofs.Common.{◌≡◌, ℕ, ◌*◌, ◌/◌, ◌%◌, ◌^◌, ◌<◌, sym, subst}
+use Rattle.std.proofs.Common.{◌≡◌, ℕ, ◌*◌, ◌/◌, ◌%◌, ◌^◌, ◌<◌, arith}
 use lib.Bits.{bit_xor, bit_and}
 use Rattle.binary.specs.Products.{scale_x}
 use Rattle.binary.proofs.Maps.{Additive, id_additive, xor_additive, mask_additive, shl_additive, shr_additive, mod_additive, additive_adds, agree}
@@ -21,8 +21,10 @@ shifted_is : (b : ℕ) → b < 2 ^ 28 → shifted b ≡ scale_x b
 unfolding shifted computing
 shifted_is = agree 28 shifted scale_x (additive_adds shifted_additive 28) scale_x_linear.adds (computed _ _ 28 tt)
 
+pub invariant_of-result : goal.invariant_of-result
+unfolding shifted
+invariant_of-result c = record { ok = omega (arith, shifted_is c.args.b.code c.args.b.ok, scale_x_linear.stays c.args.b.code c.args.b.ok) }
+
 pub returns : goal.returns
 unfolding shifted
-returns c =
-    let e = shifted_is c.args.b c.requires in
-    record { within = subst (λ (r : ℕ). r < 2 ^ 28) (sym e) (scale_x_linear.stays c.args.b c.requires); value = e }
+returns c = shifted_is c.args.b.code c.args.b.ok
