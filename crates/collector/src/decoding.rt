@@ -15,13 +15,17 @@ use field::{FiniteField, SymbolField};
 use packet::Packet;
 use subspace_code::division::divide_held;
 use subspace_code::holding::{AsCodes, Holding};
+use subspace_code::parameters::Parameters;
 
 // The quotient of −Qx by Qy for a pair that vanishes on the packets; absent where Qy is zero.
-fn quotient<F: SymbolField>(k: usize, packets: &[Packet<F>]) -> Option<[u32; PLACES]>
-    requires { (0 < k) × ((k ≤ 16) × (length packets.now ≤ 32)) }
-    ensures { Quotient (alphabet F.Scalar.FiniteField F.SymbolField) k (length packets.now) (Span (packet_rows (alphabet F.Scalar.FiniteField F.SymbolField)) packets.now) result }
+fn quotient<F: SymbolField>(
+    parameters: &Parameters<F>,
+    packets: &[Packet<F>],
+) -> Option<[u32; PLACES]>
+    requires { length packets.now ≤ 32 }
+    ensures { Quotient (alphabet F.Scalar.FiniteField F.SymbolField) parameters.now.k (length packets.now) (Span (packet_rows (alphabet F.Scalar.FiniteField F.SymbolField)) packets.now) result }
 {
-    let Pair { mut x, y, .. } = interpolate(k, packets);
+    let Pair { mut x, y, .. } = interpolate(parameters, packets);
     x.negate();
     let mut codes = [0; PLACES];
     let mut rest = [0; PLACES];
@@ -42,19 +46,18 @@ fn write<F: SymbolField>(codes: &[u32], output: &mut [F])
 // The message whose codeword space is within ℓ − k of the space of the packets, to the first k places of the output;
 // absent where there is none. The quotient is a message only where its measure says so.
 pub(crate) fn decode<F: SymbolField>(
-    k: usize,
-    l: usize,
+    parameters: &Parameters<F>,
     packets: &[Packet<F>],
     output: &mut [F],
 ) -> Option<Solved>
-    requires allowed { (0 < k) × ((k ≤ l) × (l ≤ F.SymbolField.DEGREE)) }
-    requires reach { length packets.now + k ≤ 2 * l }
-    requires headers { Each (HeaderBelow (alphabet F.Scalar.FiniteField F.SymbolField) l) packets.now }
+    requires reach { length packets.now + parameters.now.k ≤ 2 * parameters.now.l }
+    requires headers { Each (HeaderBelow (alphabet F.Scalar.FiniteField F.SymbolField) parameters.now.l) packets.now }
     requires dimension { IsDim (packet_rows (alphabet F.Scalar.FiniteField F.SymbolField)) (Span (packet_rows (alphabet F.Scalar.FiniteField F.SymbolField)) packets.now) (length packets.now) }
-    requires room { k ≤ length output.old }
-    ensures { Decodes (alphabet F.Scalar.FiniteField F.SymbolField) k l (Span (packet_rows (alphabet F.Scalar.FiniteField F.SymbolField)) packets.now) (length packets.now) output.old output.new result }
+    requires room { parameters.now.k ≤ length output.old }
+    ensures { Decodes (alphabet F.Scalar.FiniteField F.SymbolField) parameters.now.k parameters.now.l (Span (packet_rows (alphabet F.Scalar.FiniteField F.SymbolField)) packets.now) (length packets.now) output.old output.new result }
 {
-    let codes = quotient(k, packets)?;
+    let Parameters { k, l, .. } = *parameters;
+    let codes = quotient(parameters, packets)?;
     let message = &codes[..k];
     let r = packets.len();
     let foreign = measure(message, packets);

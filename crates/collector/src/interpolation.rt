@@ -12,6 +12,7 @@ use field::{FiniteField, SymbolField};
 use packet::Packet;
 use std::cmp;
 use std::marker::Model;
+use subspace_code::parameters::Parameters;
 
 // A polynomial in x and one in y, with the pair's weighted degree:
 // a place in x counts as itself, a place in y counts k − 1 more.
@@ -84,9 +85,8 @@ impl<F: SymbolField> Model for State<F> {
 
 impl<F: SymbolField> State<F> {
     // x alone, and y alone.
-    fn start(k: usize) -> Self
-        requires { 0 < k }
-        ensures { IsStart (alphabet F.Scalar.FiniteField F.SymbolField) k result }
+    fn start(parameters: &Parameters<F>) -> Self
+        ensures { IsStart (alphabet F.Scalar.FiniteField F.SymbolField) parameters.now.k result }
     {
         State {
             first: Pair {
@@ -97,7 +97,7 @@ impl<F: SymbolField> State<F> {
             second: Pair {
                 x: Polynomial::zero(),
                 y: Polynomial::variable(),
-                degree: k - 1,
+                degree: parameters.k - 1,
             },
         }
     }
@@ -128,11 +128,14 @@ impl<F: SymbolField> State<F> {
 }
 
 // A pair that vanishes on the packets, of least weighted degree.
-pub(crate) fn interpolate<F: SymbolField>(k: usize, packets: &[Packet<F>]) -> Pair<F>
-    requires { (0 < k) × ((k ≤ 16) × (length packets.now ≤ 32)) }
-    ensures { Interpolates (alphabet F.Scalar.FiniteField F.SymbolField) k (τ (length packets.now) k) (Span (packet_rows (alphabet F.Scalar.FiniteField F.SymbolField)) packets.now) result.pair.x result.pair.y }
+pub(crate) fn interpolate<F: SymbolField>(
+    parameters: &Parameters<F>,
+    packets: &[Packet<F>],
+) -> Pair<F>
+    requires { length packets.now ≤ 32 }
+    ensures { Interpolates (alphabet F.Scalar.FiniteField F.SymbolField) parameters.now.k (τ (length packets.now) parameters.now.k) (Span (packet_rows (alphabet F.Scalar.FiniteField F.SymbolField)) packets.now) result.pair.x result.pair.y }
 {
-    let mut state = State::start(k);
+    let mut state = State::start(parameters);
     for packet in packets {
         state.next(*packet);
     }

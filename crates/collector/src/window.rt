@@ -10,6 +10,7 @@ use crate::row::Row;
 use crate::scalar::{is_one, is_zero};
 use field::{FiniteField, SymbolField};
 use packet::Packet;
+use subspace_code::parameters::Parameters;
 
 // Whether every row is zero at place p.
 fn zero_at<R: Row>(rows: &[R], p: usize) -> bool
@@ -41,11 +42,10 @@ fn all_zero<R: Row>(rows: &[R]) -> bool
 }
 
 // q^ℓ.
-pub(crate) fn header_limit<F: SymbolField>(l: usize) -> u32
-    requires { l ≤ F.SymbolField.DEGREE }
-    ensures { result ≡ F.SymbolField.ORDER ^ l }
+pub(crate) fn header_limit<F: SymbolField>(parameters: &Parameters<F>) -> u32
+    ensures { result ≡ F.SymbolField.ORDER ^ parameters.now.l }
 {
-    F::ORDER.pow(l as u32)
+    F::ORDER.pow(parameters.l as u32)
 }
 
 // Whether the x code of every packet is below the limit.
@@ -56,12 +56,15 @@ fn headers_below<F: SymbolField>(packets: &[Packet<F>], limit: u32) -> bool
 }
 
 // Whether the packets are a window of this dimension with x codes below q^ℓ.
-pub(crate) fn is_window<F: SymbolField>(packets: &[Packet<F>], dim: usize, l: usize) -> bool
-    requires { l ≤ F.SymbolField.DEGREE }
-    ensures { (result ≡ true) ↔ PacketWindow (alphabet F.Scalar.FiniteField F.SymbolField) l dim packets.now }
+pub(crate) fn is_window<F: SymbolField>(
+    parameters: &Parameters<F>,
+    packets: &[Packet<F>],
+    dim: usize,
+) -> bool
+    ensures { (result ≡ true) ↔ PacketWindow (alphabet F.Scalar.FiniteField F.SymbolField) parameters.now.l dim packets.now }
 {
     let Some((first, rest)) = packets.split_at_checked(dim) else {
         return false;
     };
-    is_reduced(first) && all_zero(rest) && headers_below(packets, header_limit::<F>(l))
+    is_reduced(first) && all_zero(rest) && headers_below(packets, header_limit(parameters))
 }

@@ -1,5 +1,5 @@
 // A sender of blocks in one field.
-ghost use Rattle.std.specs.Prelude.{◌≡◌, true, false, IfOk, MatchOption, string_bytes};
+ghost use Rattle.std.specs.Prelude.{◌≡◌, false, IfOk, MatchOption, string_bytes};
 ghost use Rattle.field.specs.Alphabet.{alphabet};
 ghost use Rattle.subspace_code.specs.Encoding.{fits};
 ghost use Rattle.portal_log.specs.Text.{parts};
@@ -17,34 +17,29 @@ use portal_log::head::Head;
 use portal_log::name::LogField;
 use portal_log::text::Lines;
 use std::alloc::{AllocError, Global};
-use std::marker::PhantomData;
 use subspace_code::encoding::encode;
+use subspace_code::parameters::Parameters;
 
-// The first line of a sheet in the field F, whose parameters fit the field.
+// A sender's blocks are all encoded with the same parameters.
 #[derive(Drop)]
 pub(crate) struct Sender<F: SymbolField> {
-    head: Head,
-    field: PhantomData<F>,
-    ghost fits: { fits head.k head.l F.SymbolField.DEGREE ≡ true },
+    parameters: Parameters<F>,
 }
 
 impl<F: LogField> Sender<F> {
-    // None where the parameters do not fit.
+    // Absent where the parameters of the first line do not fit the field.
     pub(crate) fn of(head: Head) -> Option<Sender<F>>
-        ensures { MatchOption result (fits head.k head.l F.SymbolField.DEGREE ≡ false) (λ s. s.head ≡ head) }
+        ensures { MatchOption result (fits head.k head.l F.SymbolField.DEGREE ≡ false) (λ s. (s.parameters.k ≡ head.k) × (s.parameters.l ≡ head.l)) }
     {
-        if !head.fits(F::DEGREE) {
-            return None;
-        }
-        let field = PhantomData;
-        Some(Sender { head, field })
+        let parameters = Parameters::new(head.k, head.l)?;
+        Some(Sender { parameters })
     }
 
     // The lines of a block's packets.
     fn block_lines(&self, heap: Global, block: &Block<F>) -> Result<String, Fault>
-        ensures { Answers string_bytes result (block_text (alphabet F.Scalar.FiniteField F.SymbolField) F.LogField.NAME self.now.head.k self.now.head.l (held block.now)) }
+        ensures { Answers string_bytes result (block_text (alphabet F.Scalar.FiniteField F.SymbolField) F.LogField.NAME self.now.parameters.k self.now.parameters.l (held block.now)) }
     {
-        let Head { k, l, .. } = self.head;
+        let Parameters { k, l, .. } = self.parameters;
         let mut packets = vec![in heap; Packet::zero(); l]?;
         encode(k, l, &block.message, &mut packets)?;
         Ok(packet_lines(heap, block.number, &packets)?)
@@ -52,7 +47,7 @@ impl<F: LogField> Sender<F> {
 
     // The lines that come of a block line.
     fn line_text(&self, heap: Global, line: &[u8]) -> Result<String, Fault>
-        ensures { Answers string_bytes result (and_then (block_of (alphabet F.Scalar.FiniteField F.SymbolField) F.LogField.NAME (parts line.now)) (block_text (alphabet F.Scalar.FiniteField F.SymbolField) F.LogField.NAME self.now.head.k self.now.head.l)) }
+        ensures { Answers string_bytes result (and_then (block_of (alphabet F.Scalar.FiniteField F.SymbolField) F.LogField.NAME (parts line.now)) (block_text (alphabet F.Scalar.FiniteField F.SymbolField) F.LogField.NAME self.now.parameters.k self.now.parameters.l)) }
     {
         let block = Block::read(heap, line)?;
         self.block_lines(heap, &block)
@@ -65,7 +60,7 @@ impl<F: LogField> Sender<F> {
         lines: Lines<'_>,
         mut text: String,
     ) -> Result<String, AllocError>
-        ensures { IfOk result (λ t. string_bytes t ≡ printed (string_bytes text) (blocks_text (alphabet F.Scalar.FiniteField F.SymbolField) F.LogField.NAME self.now.head.k self.now.head.l 2 (left_lines lines.entry))) }
+        ensures { IfOk result (λ t. string_bytes t ≡ printed (string_bytes text) (blocks_text (alphabet F.Scalar.FiniteField F.SymbolField) F.LogField.NAME self.now.parameters.k self.now.parameters.l 2 (left_lines lines.entry))) }
     {
         for (i, line) in lines.enumerate() {
             match self.line_text(heap, line.text) {

@@ -8,21 +8,23 @@ ghost use Rattle.subspace_code.specs.Encoding.{encode_refusal, encoded};
 
 use crate::evaluation::evaluate;
 use crate::holding::AsSymbols;
+use crate::parameters::Parameters;
 use answer::refusal::Refusal;
 use field::{FiniteField, SymbolField};
 use packet::Packet;
 
-// The encoder's refusals, in the order of their numbers.
-fn check(m: usize, k: usize, l: usize, symbols: usize, places: usize) -> Result<(), Refusal>
-    ensures { result ≡ answered (encode_refusal m k l symbols places) tt }
+// What refuses a block past its parameters, in the order of the refusals' numbers.
+fn check<F: SymbolField>(
+    parameters: &Parameters<F>,
+    symbols: usize,
+    places: usize,
+) -> Result<(), Refusal>
+    ensures { result ≡ answered (encode_refusal F.SymbolField.DEGREE parameters.now.k parameters.now.l symbols places) tt }
 {
-    if k < 1 || l < k || m < l {
-        return Err(Refusal::Parameters);
-    }
-    if places < l {
+    if places < parameters.l {
         return Err(Refusal::OutputShort);
     }
-    if symbols != k {
+    if symbols != parameters.k {
         return Err(Refusal::MessageLength);
     }
     Ok(())
@@ -54,7 +56,8 @@ pub fn encode<F: SymbolField>(
     ensures output { output.new ≡ encoded (alphabet F.Scalar.FiniteField F.SymbolField) (encode_refusal F.SymbolField.DEGREE k l (length message.now) (length output.old)) l message.now output.old }
     ensures codewords { result ≡ Ok tt → Each (Codeword (alphabet F.Scalar.FiniteField F.SymbolField) l message.now) (take l output.new) }
 {
-    check(F::DEGREE, k, l, message.len(), output.len())?;
+    let parameters = Parameters::<F>::new(k, l).ok_or(Refusal::Parameters)?;
+    check(&parameters, message.len(), output.len())?;
     write_packets(message, &mut output[..l]);
     Ok(())
 }

@@ -6,3 +6,4 @@ pub mod division;
 pub mod encoding;
 pub mod evaluation;
 pub mod holding;
+pub mod parameters;

@@ -2,7 +2,7 @@
 ghost use Rattle.std.specs.Prelude.{◌≡◌, ◌+◌, ◌<◌, ◌≤◌, length};
 ghost use Rattle.field.specs.Alphabet.{alphabet};
 ghost use Rattle.collector.specs.Regions.{zero_rows, Place};
-ghost use Rattle.collector.specs.Session.{Sized, Looked, Reached};
+ghost use Rattle.collector.specs.Session.{Allowed, Sized, Looked, Reached};
 
 use super::Session;
 use crate::window::is_window;
@@ -11,6 +11,7 @@ use answer::refusal::Refusal;
 use field::SymbolField;
 use packet::Packet;
 use std::ops::Range;
+use subspace_code::parameters::Parameters;
 
 // No number's list grows longer: `list_limit` in the specs.
 pub(crate) const LIST_LIMIT: usize = 10_000;
@@ -23,11 +24,8 @@ pub(crate) fn sized<F: SymbolField>(
 ) -> Result<usize, Refusal>
     ensures { Sized (alphabet F.Scalar.FiniteField F.SymbolField) k l rows.now result }
 {
-    let m = F::DEGREE;
-    if k < 1 || l < k || m < l {
-        return Err(Refusal::Parameters);
-    }
-    let count = 8 * (l + m);
+    let parameters = Parameters::<F>::new(k, l).ok_or(Refusal::Parameters)?;
+    let count = 8 * (parameters.l + F::DEGREE);
     if rows.len() < count {
         return Err(Refusal::Rows);
     }
@@ -45,6 +43,14 @@ pub(crate) fn clear<F: SymbolField>(rows: &mut [Packet<F>])
 }
 
 impl Session {
+    // Its k and ℓ, as those of a code over F.
+    pub(crate) fn parameters<F: SymbolField>(&self) -> Parameters<F>
+        requires { Allowed self.now.k self.now.l F.SymbolField.DEGREE }
+        ensures { (result.k ≡ self.now.k) × (result.l ≡ self.now.l) }
+    {
+        Parameters::new(self.k, self.l).unwrap()
+    }
+
     // Where a number's rows stand.
     pub(crate) fn place<F: SymbolField>(&self, number: u8) -> Range<usize>
         requires { (number < 8) × (self.now.l ≤ F.SymbolField.DEGREE) }
@@ -70,7 +76,7 @@ impl Session {
             .ok_or(Refusal::BlockNumber)?;
         let dimension = record.map_or(0, |tally| tally.dimension);
         let place = self.place::<F>(number);
-        if !is_window(&rows[place], dimension, self.l) {
+        if !is_window(&self.parameters(), &rows[place], dimension) {
             return Err(Refusal::Rows);
         }
         Ok(record)

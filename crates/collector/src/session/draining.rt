@@ -17,23 +17,24 @@ use answer::{Drained, Tally};
 use feed::Feed;
 use field::{FiniteField, SymbolField};
 use packet::Packet;
+use subspace_code::parameters::Parameters;
 
 // Adds the packets of a feed to a window, passing over those with a header from q^ℓ on. Answers the dimension, and how many of each.
 fn fill<F: SymbolField, D: Feed<Item = Packet<F>>>(
+    parameters: &Parameters<F>,
     window: &mut [Packet<F>],
     dimension: usize,
-    l: usize,
     feed: &mut D,
 ) -> (usize, Drained)
-    requires window { PacketWindow (alphabet F.Scalar.FiniteField F.SymbolField) l dimension window.old }
-    requires wide { (l ≤ F.SymbolField.DEGREE) × (l + F.SymbolField.DEGREE ≤ length window.old) }
-    ensures window { PacketWindow (alphabet F.Scalar.FiniteField F.SymbolField) l result.0 window.new }
-    ensures spans { Spans (packet_rows (alphabet F.Scalar.FiniteField F.SymbolField)) (take result.0 window.new) (Sum (packet_rows (alphabet F.Scalar.FiniteField F.SymbolField)) (Span (packet_rows (alphabet F.Scalar.FiniteField F.SymbolField)) (take dimension window.old)) (Span (packet_rows (alphabet F.Scalar.FiniteField F.SymbolField)) (kept (alphabet F.Scalar.FiniteField F.SymbolField) l (D.list feed.old)))) }
-    ensures gives { DrainAnswer (alphabet F.Scalar.FiniteField F.SymbolField) l (D.list feed.old) result.1 }
+    requires window { PacketWindow (alphabet F.Scalar.FiniteField F.SymbolField) parameters.now.l dimension window.old }
+    requires wide { parameters.now.l + F.SymbolField.DEGREE ≤ length window.old }
+    ensures window { PacketWindow (alphabet F.Scalar.FiniteField F.SymbolField) parameters.now.l result.0 window.new }
+    ensures spans { Spans (packet_rows (alphabet F.Scalar.FiniteField F.SymbolField)) (take result.0 window.new) (Sum (packet_rows (alphabet F.Scalar.FiniteField F.SymbolField)) (Span (packet_rows (alphabet F.Scalar.FiniteField F.SymbolField)) (take dimension window.old)) (Span (packet_rows (alphabet F.Scalar.FiniteField F.SymbolField)) (kept (alphabet F.Scalar.FiniteField F.SymbolField) parameters.now.l (D.list feed.old)))) }
+    ensures gives { DrainAnswer (alphabet F.Scalar.FiniteField F.SymbolField) parameters.now.l (D.list feed.old) result.1 }
     ensures empty { D.list feed.new ≡ [] }
     ensures same { D.lenders feed.new ≡ D.lenders feed.old }
 {
-    let limit = header_limit::<F>(l);
+    let limit = header_limit(parameters);
     let mut risen = dimension;
     let mut drained = Drained { kept: 0, passed: 0 };
     while let Some(packet) = feed.next() {
@@ -77,7 +78,8 @@ impl Session {
     {
         let tally = self.admit(rows, number, D::len(feed))?;
         let place = self.place::<F>(number);
-        let (dimension, drained) = fill(&mut rows[place], tally.dimension, self.l, feed);
+        let parameters = self.parameters();
+        let (dimension, drained) = fill(&parameters, &mut rows[place], tally.dimension, feed);
         self.numbers[number as usize] = Some(Tally {
             taken: tally.taken + drained.kept,
             dimension,

@@ -29,8 +29,9 @@ impl Session {
         if 2 * self.l < dimension + self.k {
             return Err(Refusal::DimensionHigh(dimension));
         }
+        let parameters = self.parameters();
         let place = self.place::<F>(number);
         let window = &rows[place];
-        decode(self.k, self.l, &window[0..dimension], output).ok_or(Refusal::NoneNear(dimension))
+        decode(&parameters, &window[0..dimension], output).ok_or(Refusal::NoneNear(dimension))
     }
 }

@@ -24,7 +24,7 @@ impl Session {
     {
         let tally = self.reach(rows, number)?;
         let header = F::from_code(x).ok_or(Refusal::Header)?;
-        if header_limit::<F>(self.l) <= x {
+        if header_limit::<F>(&self.parameters()) <= x {
             return Err(Refusal::Header);
         }
         let payload = F::from_code(y).ok_or(Refusal::Payload)?;

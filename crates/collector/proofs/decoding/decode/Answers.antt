@@ -23,12 +23,12 @@ message_long g k codes l = omega (arith, length-map (take k codes) (held_code g.
 
 pub returns-in_err-codes : goal.returns-in_err-codes
 returns-in_err-codes g c =
-    rw c.from_residual.ensures (no_quotient (laws g) c.args.k c.args.l c.requires.allowed.1.1 c.args.packets.now c.requires.headers c.requires.dimension c.in_err-codes.ensures, refl)
+    rw c.from_residual.ensures (no_quotient (laws g) c.args.parameters.now.k c.args.parameters.now.l c.args.parameters.now.within c.args.packets.now c.requires.headers c.requires.dimension c.in_err-codes.ensures, refl)
 
 -- the message's measure is at most the dimension, and what is shared at most ℓ
-shared : (g : given.Over) (c : After-measure-foreign g) → (c.measure-foreign.result ≤ length c.args.packets.now) × (length c.args.packets.now - c.measure-foreign.result ≤ c.args.l)
+shared : (g : given.Over) (c : After-measure-foreign g) → (c.measure-foreign.result ≤ length c.args.packets.now) × (length c.args.packets.now - c.measure-foreign.result ≤ c.args.parameters.now.l)
 shared g c =
-    measured_shared (laws g) c.args.k c.args.l c.requires.allowed.1.1 c.args.packets.now c.requires.headers c.requires.dimension (message g c.args.k c.in_ok-codes.codes) c.measure-foreign.result
+    measured_shared (laws g) c.args.parameters.now.k c.args.parameters.now.l c.args.parameters.now.within c.args.packets.now c.requires.headers c.requires.dimension (message g c.args.parameters.now.k c.in_ok-codes.codes) c.measure-foreign.result
     c.measure-foreign.ensures
 
 pub overflow_mul-foreign : goal.overflow_mul-foreign
@@ -42,11 +42,11 @@ overflow_add-foreign g c =
 pub returns-then-r-foreign : goal.returns-then-r-foreign
 returns-then-r-foreign g c =
     let A = alphabet g.F.Scalar.FiniteField g.F.FiniteField g.F.SymbolField in
-    let k = c.args.k in
+    let k = c.args.parameters.now.k in
     let codes = c.in_ok-codes.codes in
     let (room, candidate) = c.in_ok-codes.ensures in
     let long = message_long g k codes (omega (arith, room, (laws g).extension.coordinate_limit)) in (
-      measured_none (laws g) k c.args.l c.requires.allowed.1.1 c.args.packets.now c.requires.headers c.requires.dimension (message g k codes) c.measure-foreign.result c.measure-foreign.ensures
+      measured_none (laws g) k c.args.parameters.now.l c.args.parameters.now.within c.args.packets.now c.requires.headers c.requires.dimension (message g k codes) c.measure-foreign.result c.measure-foreign.ensures
           (polynomial A codes) candidate long (λ n l. front_at A codes k n (omega arith)) c.if-r-foreign.true,
       refl,
     )
@@ -56,10 +56,10 @@ overflow_sub-lost g c = (shared g (goal.at.overflow_sub-lost g c).After-measure-
 
 pub returns : goal.returns
 returns g c =
-    let k = c.args.k in
+    let k = c.args.parameters.now.k in
     let codes = c.in_ok-codes.codes in
     let (room, candidate) = c.in_ok-codes.ensures in
     let long = message_long g k codes (omega (arith, room, (laws g).extension.coordinate_limit)) in
     let taken : length (take k codes) ≡ k = omega (arith, room, length-take k codes, (laws g).extension.coordinate_limit) in
-    measured_found (laws g) k c.args.l c.requires.allowed.1.1 c.args.packets.now c.requires.headers c.requires.dimension (message g k codes) c.measure-foreign.result c.measure-foreign.ensures
+    measured_found (laws g) k c.args.parameters.now.l c.args.parameters.now.within c.args.packets.now c.requires.headers c.requires.dimension (message g k codes) c.measure-foreign.result c.measure-foreign.ensures
     long c.if-r-foreign.false c.args.output.now _ (c.write.ensures ∙ ap (λ n. message g k codes ++ drop n c.args.output.now) taken)

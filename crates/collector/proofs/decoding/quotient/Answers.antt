@@ -30,11 +30,11 @@ module _ {K S : Type 0} (A : Alphabet K S) (D B f R g T : List S) where
 -- the pair that is found, and what the division answers for it
 found : (g : given.Over) (c : After-divide_held g) →
     let A = alphabet g.F.Scalar.FiniteField g.F.FiniteField g.F.SymbolField in
-    Interpolates A c.args.k (τ (length c.args.packets.now) c.args.k) (Span (packet_rows A) c.args.packets.now) c.x.inside.x c.x.inside.y
+    Interpolates A c.args.parameters.now.k (τ (length c.args.packets.now) c.args.parameters.now.k) (Span (packet_rows A) c.args.packets.now) c.x.inside.x c.x.inside.y
     × DivideAnswer A c.negate.new.self c.x.inside.y (polynomial A (replicate 48 0)) (polynomial A (replicate 48 0)) (polynomial A c.divide_held.new.quotient) (polynomial A c.divide_held.new.remainder) c.divide_held.result
 found g c =
     let A = alphabet g.F.Scalar.FiniteField g.F.FiniteField g.F.SymbolField in (
-      subst (λ w. Interpolates A c.args.k (τ (length c.args.packets.now) c.args.k) (Span (packet_rows A) c.args.packets.now) w.pair.x w.pair.y) (sym c.x.view_is) c.interpolate.ensures,
+      subst (λ w. Interpolates A c.args.parameters.now.k (τ (length c.args.packets.now) c.args.parameters.now.k) (Span (packet_rows A) c.args.packets.now) w.pair.x w.pair.y) (sym c.x.view_is) c.interpolate.ensures,
       subst₂ (λ D B. DivideAnswer A D B (polynomial A (replicate 48 0)) (polynomial A (replicate 48 0)) (polynomial A c.divide_held.new.quotient) (polynomial A c.divide_held.new.remainder) c.divide_held.result)
           c.codes.ensures.codes c.codes-2.ensures.codes c.divide_held.ensures.answer,
     )

@@ -15,7 +15,7 @@ laws : (g : given.Over) → Lawful (alphabet g.F.Scalar.FiniteField g.F.FiniteFi
 laws g = record { scalar_codes = g.met.F.Scalar.FiniteField.codes; codes = g.met.F.FiniteField.codes; extension = g.met.F.SymbolField.extension }
 
 pub loop-packet-init : goal.loop-packet-init
-loop-packet-init g c = interpolating_start (laws g) c.args.k c.args.packets.now _ c.start-state.ensures
+loop-packet-init g c = interpolating_start (laws g) c.args.parameters.now.k c.args.packets.now _ c.start-state.ensures
 
 pub loop-packet-preserved : goal.loop-packet-preserved
 loop-packet-preserved g c =
@@ -23,7 +23,7 @@ loop-packet-preserved g c =
     let L = c.args.packets.now in
     let i = c.loop-packet.packet-index in
     let read = get_or_read L i c.packet-item.result c.loop-packet-test.true c.packet-item.is (packet_zero A) in
-    interpolating_step (laws g) c.args.k L i c.loop-packet.state c.next.new.self c.loop-packet.invariant (subst (λ p. Next A c.loop-packet.state p c.next.new.self) read c.next.ensures)
+    interpolating_step (laws g) c.args.parameters.now.k L i c.loop-packet.state c.next.new.self c.loop-packet.invariant (subst (λ p. Next A c.loop-packet.state p c.next.new.self) read c.next.ensures)
 
 -- the smaller by a key, and the first where they are equal
 smaller : {X : Type 0} (key : X → ℕ) (P : X → Type 0) (a b : X) → (key a ≤ key b → P a) → (key b < key a → P b) → P (ord_min (on key nat_cmp) a b)
@@ -43,8 +43,8 @@ returns g c =
       first_degree = c.state.inside.first.degree;
       second_degree = c.state.inside.second.degree;
     } in
-    let kept : Interpolating A c.args.k L (length L) s =
-    subst (λ s. Interpolating A c.args.k L (length L) s) (sym c.state.view_is) (subst (λ n. Interpolating A c.args.k L n c.loop-packet.state) (omega arith) c.loop-packet.invariant) in
+    let kept : Interpolating A c.args.parameters.now.k L (length L) s =
+    subst (λ s. Interpolating A c.args.parameters.now.k L (length L) s) (sym c.state.view_is) (subst (λ n. Interpolating A c.args.parameters.now.k L n c.loop-packet.state) (omega arith) c.loop-packet.invariant) in
     rw (c.min_by_key.ensures (λ p. p.degree) (answers_always _ _ _ (λ f a r h called. search rules)))
-    (smaller (λ p. p.degree) (λ p. Interpolates A c.args.k (τ (length L) c.args.k) (Span (packet_rows A) L) p.pair.x p.pair.y) c.state.inside.first c.state.inside.second
-    (first_interpolates (laws g) c.args.k L (λ p. (λ s. s, λ s. s)) s kept) (second_interpolates (laws g) c.args.k L (λ p. (λ s. s, λ s. s)) s kept))
+    (smaller (λ p. p.degree) (λ p. Interpolates A c.args.parameters.now.k (τ (length L) c.args.parameters.now.k) (Span (packet_rows A) L) p.pair.x p.pair.y) c.state.inside.first c.state.inside.second
+    (first_interpolates (laws g) c.args.parameters.now.k L (λ p. (λ s. s, λ s. s)) s kept) (second_interpolates (laws g) c.args.parameters.now.k L (λ p. (λ s. s, λ s. s)) s kept))

@@ -5,4 +5,4 @@ use Rattle.collector.proofs.interpolation.interpolate.Given as goal
 
 abbrev pub invariant-loop-packet : goal.invariant-loop-packet
 invariant-loop-packet g l =
-    Interpolating (alphabet g.F.Scalar.FiniteField g.F.FiniteField g.F.SymbolField) l.k l.packets l.packet-index l.state
+    Interpolating (alphabet g.F.Scalar.FiniteField g.F.FiniteField g.F.SymbolField) l.parameters.k l.packets l.packet-index l.state

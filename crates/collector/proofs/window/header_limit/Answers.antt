@@ -9,4 +9,4 @@ laws : (g : given.Over) → Lawful (alphabet g.F.Scalar.FiniteField g.F.FiniteFi
 laws g = record { scalar_codes = g.met.F.Scalar.FiniteField.codes; codes = g.met.F.FiniteField.codes; extension = g.met.F.SymbolField.extension }
 
 pub pow-requires : goal.pow-requires
-pow-requires g c = omega (arith, ap (λ q. q ^ c.args.l) c.ORDER.ensures, power_limit (laws g) c.args.l c.requires)
+pow-requires g c = omega (arith, ap (λ q. q ^ c.args.parameters.now.l) c.ORDER.ensures, power_limit (laws g) c.args.parameters.now.l c.args.parameters.now.within)

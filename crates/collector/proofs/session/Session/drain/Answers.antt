@@ -27,7 +27,7 @@ returns-in_err-tally-clause-drains g c =
 
 pub fill-dimension-requires-clause-window : goal.fill-dimension-requires-clause-window
 fill-dimension-requires-clause-window g c =
-    let (ready, was, room) = c.in_ok-tally.ensures in part_packets (laws g) ready was c.place-place.ensures
+    let (ready, was, room) = c.in_ok-tally.ensures in rw c.parameters-parameters.ensures.1 (part_packets (laws g) ready was c.place-place.ensures)
 
 pub returns-clause-drains : goal.returns-clause-drains
 returns-clause-drains g c =
@@ -35,7 +35,8 @@ returns-clause-drains g c =
     let b = c.args.number in
     let feed = g.D.Feed.list c.args.feed.now in
     let (ready, was, room) = c.in_ok-tally.ensures in
+    let same = c.parameters-parameters.ensures.1 in
     let filled = c.fill-dimension.ensures in (
       open_none ready was ((Overfull s b (length feed), ListFull) ∷ []) (not_overfull s b (length feed) was (omega (arith, c.len.ensures)), tt),
-      drained_all (laws g) ready was c.place-place.ensures feed c.fill-dimension.result.1 filled.window filled.spans filled.gives filled.empty c.fill-dimension.auto.window,
+      drained_all (laws g) ready was c.place-place.ensures feed c.fill-dimension.result.1 (rw same at filled.window) (rw same at filled.spans) (rw same at filled.gives) filled.empty c.fill-dimension.auto.window,
     )

@@ -30,4 +30,4 @@ decode-requires-clause-dimension g c = let (ready, was) = c.in_ok-dimension.ensu
 pub returns : goal.returns
 returns g c =
     let (ready, was) = c.in_ok-dimension.ensures in
-    rw c.ok_or.ensures.value (solves (laws g) ready was c.place-place.ensures c.args.output.now c.decode.new.output c.decode.result c.if-output-self.false c.if-dimension-self.false c.if-self-dimension.false c.decode.ensures)
+    rw c.ok_or.ensures.value (solves (laws g) ready was c.place-place.ensures c.args.output.now c.decode.new.output c.decode.result c.if-output-self.false c.if-dimension-self.false c.if-self-dimension.false (rw (c.parameters-parameters.ensures.0, c.parameters-parameters.ensures.1) at c.decode.ensures))

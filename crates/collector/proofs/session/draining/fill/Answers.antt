@@ -16,29 +16,29 @@ laws g = record { scalar_codes = g.met.F.Scalar.FiniteField.codes; codes = g.met
 
 pub overflow_add-drained-else-limit-code : goal.overflow_add-drained-else-limit-code
 overflow_add-drained-else-limit-code g c =
-    let few = filling_few (laws g) c.args.l c.loop-packet.invariant.0 in
+    let few = filling_few (laws g) c.args.parameters.now.l c.loop-packet.invariant.0 in
     let short = g.D.Feed.short c.args.feed.now in omega arith
 
 pub loop-packet-preserved-then-limit-code : goal.loop-packet-preserved-then-limit-code
 loop-packet-preserved-then-limit-code g c =
     let n = c.in-Some.ensures in
     let list = g.D.Feed.list in
-    let high : (A g).q ^ c.args.l ≤ (A g).code c.in-Some.packet.x = omega (arith, c.header_limit-limit.ensures, c.code.ensures) in (
-      filling_pass (laws g) c.args.l c.in-Some.packet (gives_some (list c.loop-packet.feed) (list c.next.new.self) c.in-Some.packet n.gives) high c.loop-packet.invariant.0,
+    let high : (A g).q ^ c.args.parameters.now.l ≤ (A g).code c.in-Some.packet.x = omega (arith, c.header_limit-limit.ensures, c.code.ensures) in (
+      filling_pass (laws g) c.args.parameters.now.l c.in-Some.packet (gives_some (list c.loop-packet.feed) (list c.next.new.self) c.in-Some.packet n.gives) high c.loop-packet.invariant.0,
       n.same ∙ c.loop-packet.invariant.1,
     )
 
 pub add_row-risen-requires-clause-room : goal.add_row-risen-requires-clause-room
 add_row-risen-requires-clause-room g c =
-    let low : (A g).code c.in-Some.packet.x < (A g).q ^ c.args.l = omega (arith, c.header_limit-limit.ensures, c.code.ensures) in
-    packet_room (laws g) c.args.l c.requires.wide.0 c.loop-packet.invariant.0.window (omega (arith, c.requires.wide, c.loop-packet.auto.window)) low
+    let low : (A g).code c.in-Some.packet.x < (A g).q ^ c.args.parameters.now.l = omega (arith, c.header_limit-limit.ensures, c.code.ensures) in
+    packet_room (laws g) c.args.parameters.now.l c.args.parameters.now.within c.loop-packet.invariant.0.window (omega (arith, c.requires.wide, c.loop-packet.auto.window)) low
 
 pub loop-packet-preserved : goal.loop-packet-preserved
 loop-packet-preserved g c =
     let n = c.in-Some.ensures in
     let list = g.D.Feed.list in
-    let low : (A g).code c.in-Some.packet.x < (A g).q ^ c.args.l = omega (arith, c.header_limit-limit.ensures, c.code.ensures) in (
-      filling_keep (laws g) c.args.l c.in-Some.packet c.requires.wide.0 (gives_some (list c.loop-packet.feed) (list c.next.new.self) c.in-Some.packet n.gives) low
+    let low : (A g).code c.in-Some.packet.x < (A g).q ^ c.args.parameters.now.l = omega (arith, c.header_limit-limit.ensures, c.code.ensures) in (
+      filling_keep (laws g) c.args.parameters.now.l c.in-Some.packet c.args.parameters.now.within (gives_some (list c.loop-packet.feed) (list c.next.new.self) c.in-Some.packet n.gives) low
           c.loop-packet.invariant.0 c.add_row-risen.ensures.added,
       n.same ∙ c.loop-packet.invariant.1,
     )
@@ -48,9 +48,9 @@ ended : (g : given.Over) (c : goal.In_default g) → (g.D.Feed.list c.loop-packe
 ended g c = gives_not_some (g.D.Feed.list c.loop-packet.feed) (g.D.Feed.list c.next.new.self) c.next.result c.next.ensures.gives c.in_default.not-Some
 
 pub returns-clause-spans : goal.returns-clause-spans
-returns-clause-spans g c = filling_end (laws g) c.args.l c.requires.window.0 c.loop-packet.invariant.0 (ended g c).0
+returns-clause-spans g c = filling_end (laws g) c.args.parameters.now.l c.requires.window.0 c.loop-packet.invariant.0 (ended g c).0
 
 pub returns-clause-gives : goal.returns-clause-gives
 returns-clause-gives g c =
     let f = c.loop-packet.invariant.0 in
-    subst (λ ps. DrainAnswer (A g) c.args.l ps c.loop-packet.drained) (filling_all (laws g) c.args.l f (ended g c).0) f.gives
+    subst (λ ps. DrainAnswer (A g) c.args.parameters.now.l ps c.loop-packet.drained) (filling_all (laws g) c.args.parameters.now.l f (ended g c).0) f.gives

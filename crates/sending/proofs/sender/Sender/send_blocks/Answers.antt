@@ -9,7 +9,7 @@ use Rattle.sending.proofs.sender.Sender.send_blocks.Goals as goal
 
 pub loop-i-init : goal.loop-i-init
 loop-i-init g c =
-    let h = c.args.self.now.head in
+    let h = c.args.self.now.parameters in
     let it = c.into_iter-i-iterator.result in
     let made = c.into_iter-i-iterator.ensures.into_iter_gives in
     let source = ap enumerate_source made ∙ c.enumerate-i-items.ensures.source in
@@ -27,7 +27,7 @@ overflow_add-i g c =
 
 pub loop-i-preserved : goal.loop-i-preserved
 loop-i-preserved g c =
-    let h = c.args.self.now.head in
+    let h = c.args.self.now.parameters in
     let A = alphabet g.F.Scalar.FiniteField g.F.FiniteField g.F.SymbolField in
     let n = enumerate_count c.loop-i.i-iterator + 2 in
     let left = left_lines (enumerate_source c.loop-i.i-iterator) in
