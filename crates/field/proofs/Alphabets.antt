@@ -1,5 +1,5 @@
 -- What follows from the laws of a symbol field: codes of the basis, elements of codes.
-use Rattle.std.proofs.Common.{◌≡◌, ℕ, suc, ◌+◌, ◌*◌, ◌^◌, ◌<◌, ◌≤◌, Bool, true, false, cond, ltb, Some, None, sym, refl, ap, ◌∙◌, subst, mul-le-mul_left, pow-suc, add-one, arith, ltb-true, le-ltb, lt-ltb}
+use Rattle.std.proofs.Common.{◌≡◌, ℕ, suc, ◌+◌, ◌*◌, ◌^◌, ◌<◌, ◌≤◌, Bool, true, false, cond, ltb, Some, None, sym, refl, ap, ◌∙◌, subst, mul-le-mul_left, pow-suc, add-one, arith, ltb-true, lt-ltb}
 use native.Mathlib.Nat.{pow-zero, pow-le-pow_right}
 use Rattle.field.specs.Laws.{of_code}
 use Rattle.field.specs.Alphabet.{Alphabet, Lawful}
