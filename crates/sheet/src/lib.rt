@@ -28,7 +28,7 @@ use portal_log::head::Head;
 use portal_log::name::{FieldName, LogField};
 use portal_log::reader::open;
 use std::alloc::{AllocError, Global};
-use std::marker::PhantomData;
+use subspace_code::parameters::Parameters;
 
 // The sheet of a log in the field F, with its first line's head.
 fn sheet_in<F: LogField>(heap: Global, head: Head, log: &[u8]) -> Result<String, AllocError>
@@ -37,13 +37,12 @@ fn sheet_in<F: LogField>(heap: Global, head: Head, log: &[u8]) -> Result<String,
     requires field { head.name ≡ F.LogField.NAME }
     ensures { IfOk result (λ t. SheetFits (alphabet F.Scalar.FiniteField F.SymbolField) F.LogField.NAME (fits head.k head.l F.SymbolField.DEGREE) head log.now (string_bytes t)) }
 {
-    if !head.fits(F::DEGREE) {
+    let Some(parameters) = Parameters::<F>::new(head.k, head.l) else {
         return refused_text(heap, Refusal::Parameters);
-    }
-    let log = Log::<F> {
+    };
+    let log = Log {
         bytes: log,
-        head,
-        field: PhantomData,
+        parameters,
     };
     let Numbers {
         mut text,

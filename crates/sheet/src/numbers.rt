@@ -18,9 +18,9 @@ use feed::Feed;
 use field::{FiniteField, SymbolField};
 use log_feed::LogFeed;
 use packet::Packet;
-use portal_log::head::Head;
 use portal_log::name::LogField;
 use std::alloc::{AllocError, Global};
+use subspace_code::parameters::Parameters;
 
 // The lines of all eight numbers, and how many packets were kept and passed over.
 #[derive(Drop)]
@@ -74,9 +74,9 @@ pub(crate) fn numbers_text<F: LogField>(
     heap: Global,
     log: &Log<'_, F>,
 ) -> Result<Numbers, AllocError>
-    ensures { IfOk result (λ n. NumbersText (alphabet F.Scalar.FiniteField F.SymbolField) F.LogField.NAME log.now.head.k log.now.head.l log.now.bytes.now (string_bytes n.text) n.taken n.passed) }
+    ensures { IfOk result (λ n. NumbersText (alphabet F.Scalar.FiniteField F.SymbolField) F.LogField.NAME log.now.parameters.k log.now.parameters.l log.now.bytes.now (string_bytes n.text) n.taken n.passed) }
 {
-    let Head { k, l, .. } = log.head;
+    let Parameters { k, l, .. } = log.parameters;
     let mut rows = vec![in heap; Packet::zero(); 8 * (l + F::DEGREE)]?;
     let mut message = vec![in heap; F::zero(); k]?;
     let rows = &mut rows[..];

@@ -60,7 +60,7 @@ returns g c =
     let o : Outcome g.row.F.Denot = record { drain = drained; output = c.args.message.now; written = c.solve-solved.new.output; solve = c.solve-solved.result } in
     let given : Ok (fed (A g) name feed.number feed.reader) ≡ answered (feed_refusal name b log.bytes.now) packets =
     subst (λ r. result_map_both (λ s. fed (A g) name s.number s.reader) (λ e. e) r ≡ answered (feed_refusal name b log.bytes.now) packets) c.unwrap-feed.ensures c.new.ensures in
-    let is : fed (A g) name feed.number feed.reader ≡ packets = ok_same (given ∙ ap (λ e. answered e packets) (fed_number name log.head b log.bytes.now c.requires.below log.short log.first log.named)) in
+    let is : fed (A g) name feed.number feed.reader ≡ packets = ok_same (given ∙ ap (λ e. answered e packets) (fed_number name _ b log.bytes.now c.requires.below log.short log.first refl)) in
     let rest = fed (A g) name c.drain-drained.new.feed.number c.drain-drained.new.feed.reader in
     let opening = subst (λ r. Step (A g) before (opened b r) opens) c.unwrap.ensures (c.open.ensures, refl) in
     let many = all_counted (A g) opens drains b (fed (A g) name feed.number feed.reader) rest drained c.drain-drained.ensures.drains in

@@ -15,10 +15,10 @@ A g = alphabet g.F.Scalar.FiniteField g.F.FiniteField g.F.SymbolField
 pub unwrap-session-requires : goal.unwrap-session-requires
 unfolding A
 unwrap-session-requires g c =
-    let h = c.args.log.now.head in
+    let h = c.args.log.now.parameters in
     let room : 8 * (h.l + g.F.SymbolField.DEGREE) ≤ length c.deref_mut.result.now = omega (arith, c.deref_mut.ensures.len, c.in_ok-rows.ensures.len, c.DEGREE.ensures) in
     unrefused_is_ok c.start.result (λ e is.
-    start_not_refused (A g) h.k h.l c.deref_mut.result.now e c.args.log.now.fits room
+    start_not_refused (A g) h.k h.l c.deref_mut.result.now e (h.some, h.ordered, h.within) room
     (subst (λ r. Started (A g) h.k h.l c.deref_mut.result.now r c.start.new.rows) is c.start.ensures.started).0)
 
 pub loop-number-init : goal.loop-number-init
@@ -40,7 +40,7 @@ loop-number-preserved g c =
     let b = c.loop-number.number in
     let got = c.collect_number-outcome in
     let counted = got.result.counted in
-    let h = c.args.log.now.head in
+    let h = c.args.log.now.parameters in
     let o : Outcome g.row.F.Denot = record { drain = got.result.drained; output = c.loop-number.message; written = got.new.message; solve = got.result.solved } in
     let long : length c.loop-number.message ≡ s.k = c.loop-number.auto.message ∙ c.deref_mut-2.ensures.len ∙ c.in_ok-message.ensures.len ∙ sym (subst (λ r. Started (A g) h.k h.l c.deref_mut.result.now r c.start.new.rows) c.unwrap-session.ensures c.start.ensures.started).1 in
     let done = got.ensures.done s.k s.l p.later p.machine p.represents (p.shut_on b (omega arith)) in
