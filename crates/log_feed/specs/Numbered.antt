@@ -2,7 +2,7 @@
 --   with_number      the packet of an entry that is a packet line with this number
 --   numbered         the packets of all entries with this number, in order, whatever their headers
 --   log_packets      those of a log
---   fed              what a feed has still to come
+--   fed              what a feed has still to come; of a log that is too long, nothing
 --   names            a first line was read, and it names this field
 --   feed_refusal     why no feed is made: the lowest refusal that applies
 -- Assumes nothing.
@@ -48,4 +48,4 @@ module _ {K S : Type 0} (A : Alphabet K S) (name : FieldName) (n : ℕ) where
   log_packets log = numbered (log_entries A name log)
 
   abbrev pub fed : Reader S → List (Packet S)
-  fed r = numbered (left_entries A name r)
+  fed r = cond (nat_lt log_limit (length r.lines.text.now)) [] (numbered (left_entries A name r))

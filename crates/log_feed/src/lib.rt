@@ -79,7 +79,7 @@ impl<'a, F: LogField> Feed for LogFeed<'a, F> {
 
     ghost list = { λ s. fed (alphabet F.Scalar.FiniteField F.SymbolField) F.LogField.NAME s.number s.reader };
 
-    ghost short = { λ s. fed_short (alphabet F.Scalar.FiniteField F.SymbolField) F.LogField.NAME s.number s.reader s.short };
+    ghost short = { λ s. fed_short (alphabet F.Scalar.FiniteField F.SymbolField) F.LogField.NAME s.number s.reader };
 
     fn len(&self) -> usize {
         self.reader

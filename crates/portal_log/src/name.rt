@@ -29,6 +29,17 @@ impl FieldName {
         }
     }
 
+    // The name as it stands in a log.
+    pub fn text(self) -> &'static str
+        ensures { result.now ≡ spelled self }
+    {
+        match self {
+            FieldName::Octet => "octet",
+            FieldName::Word => "word",
+            FieldName::Nibble => "nibble",
+        }
+    }
+
     // How many hex digits a code has.
     pub fn digits(self) -> usize
         ensures { result ≡ digits self }
@@ -41,16 +52,12 @@ impl FieldName {
     }
 }
 
-// Prints the name as it stands in a log.
+// Prints the name.
 impl fmt::Display for FieldName {
     ghost output = { λ name. Some (spelled name) };
 
     fn fmt<W: fmt::Write>(&self, f: &mut fmt::Formatter<W>) -> fmt::Result {
-        f.write_str(match self {
-            FieldName::Octet => "octet",
-            FieldName::Word => "word",
-            FieldName::Nibble => "nibble",
-        })
+        f.write_str(self.text())
     }
 }
 

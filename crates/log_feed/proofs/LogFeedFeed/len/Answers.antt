@@ -1,4 +1,4 @@
-use Rattle.std.proofs.Common.{length, drop, inl, ap, arith, length-drop, rules}
+use Rattle.std.proofs.Common.{length, drop, inl, sym, ap, ◌∙◌, arith, length-drop, rules}
 use borrow.Author.Tests.{tests}
 use Rattle.std.proofs.lemmas.Iterator.Consumers.{YieldsList-from_filter_map, YieldsList-at, count_from_yields_List}
 use Rattle.field.proofs.Members.{alphabet}
@@ -6,6 +6,7 @@ use Rattle.portal_log.specs.Views.{left_lines}
 use Rattle.portal_log.proofs.Cuts.{length_lines}
 use Rattle.portal_log.proofs.Readers.{entries_yielded}
 use Rattle.log_feed.specs.Numbered.{with_number}
+use Rattle.log_feed.proofs.Within.{fed_within}
 use Rattle.log_feed.proofs.LogFeedFeed.len.Goals as goal
 
 -- no more lines than bytes
@@ -22,3 +23,4 @@ returns g c =
     let feed = c.args.self.now in
     count_from_yields_List c.filter_map.result c.count.result c.count.ensures.ran
     (YieldsList-from_filter_map _ (with_number A name feed.number) (YieldsList-at c.filter_map.ensures.source (entries_yielded A name feed.reader)) c.filter_map.ensures.closure (λ x r q k. search (rules, tests)))
+    ∙ sym (ap length (fed_within A name feed.number feed.reader feed.short))
