@@ -87,10 +87,6 @@ impl<T: ByCode> FiniteField for T {
     }
 
     fn from_code(n: u32) -> Option<T> {
-        if n < 1 << T::BITS {
-            Some(T::of(n))
-        } else {
-            None
-        }
+        (n < 1 << T::BITS).then_some(T::of(n))
     }
 }

@@ -32,13 +32,11 @@ fn gives(rt: &impl Abort, log: &[u8], number: u8, codes: &[(u32, u32)]) -> Resul
 }
 
 fn refuses(rt: &impl Abort, log: &[u8], number: u8, refusal: Refusal) -> Result<(), Fail> {
-    match LogFeed::<Octet>::new(log, number) {
-        Ok(_) => Err(Fail::new("a feed was made")),
-        Err(given) => {
-            assert_eq!(rt; given, refusal);
-            Ok(())
-        },
-    }
+    let given = LogFeed::<Octet>::new(log, number)
+        .err()
+        .ok_or("a feed was made")?;
+    assert_eq!(rt; given, refusal);
+    Ok(())
 }
 
 #[test]
@@ -75,9 +73,7 @@ fn first_lines(rt: HostRuntime) -> Result<(), Fail> {
 fn longest(rt: HostRuntime) -> Result<(), Fail> {
     let mut log = Vec::new(rt.alloc());
     log.extend_from_slice(b"L,octet,3,1\n")?;
-    for _ in 0..65_515 {
-        log.push(b'\n')?;
-    }
+    log.resize(65_527, b'\n')?;
     log.extend_from_slice(b"P,7,01,02")?;
     assert_eq!(rt; log.len(), 65_536);
     gives(&rt, &log, 7, &[(0x01, 0x02)])?;
