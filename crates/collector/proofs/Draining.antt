@@ -1,5 +1,5 @@
 -- A feed's packets added to a window one by one.
-use Rattle.std.proofs.Common.{◌≡◌, ℕ, ◌+◌, ◌^◌, ◌<◌, ◌≤◌, Bool, true, false, cond, ltb, List, [], ◌∷◌, ◌++◌, length, take, sym, refl, ap, ◌∙◌, subst, append_assoc, append-nil, arith, length-append, le-ltb, lt-ltb}
+use Rattle.std.proofs.Common.{◌≡◌, ℕ, ◌+◌, ◌^◌, ◌<◌, ◌≤◌, Bool, true, false, cond, ltb, List, [], ◌∷◌, ◌++◌, length, take, sym, ap, ◌∙◌, subst, append_assoc, append-nil, arith, length-append, le-ltb, lt-ltb}
 use Rattle.std.proofs.lemmas.List.Elements.{filter-append}
 use Rattle.linear.specs.Span.{Span, Spans, SameSpan, Sum}
 use Rattle.linear.proofs.Sums.{sum_spans}
@@ -32,7 +32,6 @@ pub record Filling {K S : Type 0} (A : Alphabet K S) (ℓ : ℕ) (L all rest M :
   pub gives : DrainAnswer A ℓ seen answer
 
 module _ {K S : Type 0} {A : Alphabet K S} (laws : Lawful A) (ℓ : ℕ) {L all : List (Packet S)} where
-
   pub filling_pass : {rest after M : List (Packet S)} {d n k : ℕ} (p : Packet S) → rest ≡ p ∷ after → A.q ^ ℓ ≤ A.code p.x
       → Filling A ℓ L all rest M d (record { kept = n; passed = k }) → Filling A ℓ L all after M d (record { kept = n; passed = k + 1 })
   filling_pass {M = M} p next high f =

@@ -1,9 +1,8 @@
 -- Where a row may be added without more room, and what stays of a window of packets.
-use Rattle.std.proofs.Common.{◌≡◌, ℕ, zero, suc, ◌+◌, ◌<◌, ◌≤◌, Bool, List, [], ◌∷◌, length, get_or, take, replicate, refl, arith}
+use Rattle.std.proofs.Common.{◌≡◌, ℕ, zero, suc, ◌+◌, ◌<◌, ◌≤◌, Bool, List, [], ◌∷◌, length, get_or, replicate, refl, arith}
 use Rattle.linear.specs.Field.{Field}
 use Rattle.linear.specs.Rows.{Rows, RowLaws}
-use Rattle.linear.specs.Span.{Span, Spans}
-use Rattle.linear.specs.Reduced.{ReducedForm}
+use Rattle.linear.specs.Span.{Span}
 use Rattle.linear.proofs.Each.{each_from}
 use Rattle.linear.proofs.Spans.{to_span, span_at}
 use Rattle.linear.proofs.Dims.{dim_more}
@@ -15,7 +14,7 @@ use Rattle.packet.specs.Headers.{HeaderBelow}
 use Rattle.packet.proofs.Packets.{packet_laws}
 use Rattle.packet.proofs.HeaderBounds.{headers_bound}
 use Rattle.collector.specs.Windows.{Window, Added, PacketWindow}
-use Rattle.collector.proofs.Windows.{window_dim, window_span}
+use Rattle.collector.proofs.Windows.{window_dim}
 
 module _ {K V : Type 0} {F : Field K} {R : Rows K V} (laws : RowLaws F R) where
   -- as many rows as coordinates suffice

@@ -2,7 +2,7 @@ use Rattle.std.proofs.Common.{◌≡◌, subst₂, arith, rules}
 use Rattle.std.proofs.lemmas.Result.{err_from_is_err_and}
 use Rattle.field.proofs.Members.{alphabet}
 use Rattle.collector.specs.Windows.{PacketWindow}
-use Rattle.collector.specs.Session.{record_of, held, rows_of}
+use Rattle.collector.specs.Session.{record_of, held}
 use Rattle.collector.proofs.Regions.{part_is}
 use Rattle.collector.proofs.Sessions.{sized_base}
 use Rattle.collector.proofs.session.Session.look.Goals as goal
