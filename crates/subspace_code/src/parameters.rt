@@ -2,7 +2,7 @@
 ghost use Rattle.std.specs.Prelude.{◌≡◌, ◌≤◌, false, MatchOption};
 ghost use Rattle.subspace_code.specs.Encoding.{fits};
 
-use field::{FiniteField, SymbolField};
+use field::SymbolField;
 use std::marker::PhantomData;
 
 // 1 ≤ k ≤ ℓ ≤ m

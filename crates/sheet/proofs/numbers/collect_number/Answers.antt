@@ -7,7 +7,6 @@ use Rattle.answer.specs.declared.refusal.Refusal.{Refusal}
 use Rattle.answer.specs.declared.Drained.{Drained}
 use Rattle.answer.specs.Refusals.{answered}
 use Rattle.portal_log.specs.declared.head.Head.{Head}
-use Rattle.portal_log.specs.declared.name.FieldName.{FieldName}
 use Rattle.portal_log.specs.Text.{lines}
 use Rattle.portal_log.specs.Heads.{first_head}
 use Rattle.portal_log.specs.Entries.{log_limit}
@@ -42,8 +41,8 @@ ok_same : {X : Type 0} {x y : X} → ◌≡◌ {A = Result X Refusal} (Ok x) (Ok
 ok_same e = cc
 
 -- a number of a log that can be read has a feed
-fed_number : (name : FieldName) (h : Head) (b : ℕ) (log : List ℕ) → b < 8 → length log ≤ log_limit → first_head (lines log) ≡ Some h → h.name ≡ name → feed_refusal name b log ≡ None
-fed_number name h b log below short first named = search rules
+fed_number : (h : Head) (b : ℕ) (log : List ℕ) → b < 8 → length log ≤ log_limit → first_head (lines log) ≡ Some h → feed_refusal h.name b log ≡ None
+fed_number h b log below short first = search rules
 
 pub returns : goal.returns
 unfolding A
@@ -60,7 +59,7 @@ returns g c =
     let o : Outcome g.row.F.Denot = record { drain = drained; output = c.args.message.now; written = c.solve-solved.new.output; solve = c.solve-solved.result } in
     let given : Ok (fed (A g) name feed.number feed.reader) ≡ answered (feed_refusal name b log.bytes.now) packets =
     subst (λ r. result_map_both (λ s. fed (A g) name s.number s.reader) (λ e. e) r ≡ answered (feed_refusal name b log.bytes.now) packets) c.unwrap-feed.ensures c.new.ensures in
-    let is : fed (A g) name feed.number feed.reader ≡ packets = ok_same (given ∙ ap (λ e. answered e packets) (fed_number name _ b log.bytes.now c.requires.below log.short log.first refl)) in
+    let is : fed (A g) name feed.number feed.reader ≡ packets = ok_same (given ∙ ap (λ e. answered e packets) (fed_number _ b log.bytes.now c.requires.below log.short log.first)) in
     let rest = fed (A g) name c.drain-drained.new.feed.number c.drain-drained.new.feed.reader in
     let opening = subst (λ r. Step (A g) before (opened b r) opens) c.unwrap.ensures (c.open.ensures, refl) in
     let many = all_counted (A g) opens drains b (fed (A g) name feed.number feed.reader) rest drained c.drain-drained.ensures.drains in
