@@ -21,7 +21,7 @@ module _ {P : Type 0} where
   held_cut ps n e =
       let many : n ≡ min feed_limit (length ps) = omega arith in
       let cut : take n ps ≡ take feed_limit ps = ap (λ k. take k ps) many ∙ take_min feed_limit ps in
-      ap (take feed_limit) cut ∙ held_whole (held ps) (held_short ps)
+      ap (take feed_limit) cut ∙ held_whole (held ps) (held_short 0 ps)
 
   pub held_ends : (ps : List P) → length ps ≡ 0 → Next (held ps) None (held ps)
   held_ends ps e = let none = held_whole ps (omega arith) ∙ nil_from_length ps e in none_given _ _ none none

@@ -9,15 +9,15 @@ use Rattle.field.specs.Alphabet.{Alphabet}
 use Rattle.packet.specs.declared.Packet.{Packet}
 use Rattle.feed.specs.Feeds.{feed_limit}
 use Rattle.feed.specs.Layers.{held, gapped, mixed, stirred, stirred_after}
-use Rattle.feed.specs.Lists.{gap_from, join_from, stir_from}
+use Rattle.feed.specs.Lists.{held_from, gap_from, join_from, stir_from}
 
 module _ {P : Type 0} where
-  pub held_length : (ps : List P) → length (held ps) ≡ min feed_limit (length ps)
+  pub held_length : (at : ℕ) (ps : List P) → length (held_from at ps) ≡ min feed_limit (length ps) - at
   unfolding held
-  held_length ps = length-take feed_limit ps
+  held_length at ps = simp (length-drop, length-take)
 
-  pub held_short : (ps : List P) → length (held ps) ≤ feed_limit
-  held_short ps = let e = held_length ps in omega arith
+  pub held_short : (at : ℕ) (ps : List P) → length (held_from at ps) ≤ feed_limit
+  held_short at ps = let e = held_length at ps in omega arith
 
   pub gap_length : (n : ℕ) (ps : List P) → length (gapped n ps) ≡ min n (length ps) + (length ps - suc n)
   gap_length n ps = simp (length-append, length-take, length-drop)

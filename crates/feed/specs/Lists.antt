@@ -1,19 +1,23 @@
--- What the layers of this crate have still to come. Of a layer, `below` is the list of what lies below it.
+-- What the feeds of this crate have still to come. Of a layer, `below` is the list of what lies below it.
+--   held_from   the packets held, from a place on
 --   gap_list    gapped, while the gap is ahead
 --   join_list   both lists, as far as the limit goes beyond what was given out
 --   stir_list   stirred, after the last packet given out
 -- Each is a function X-from of the parts that change with a call.
 -- Assumes nothing.
-use Rattle.std.specs.Prelude.{ℕ, ◌-◌, List, ◌++◌, take, Some, None, Option}
+use Rattle.std.specs.Prelude.{ℕ, ◌-◌, List, ◌++◌, take, drop, Some, None, Option}
 use Rattle.field.specs.Alphabet.{Alphabet}
 use Rattle.packet.specs.declared.Packet.{Packet}
 use Rattle.feed.specs.Feeds.{feed_limit}
-use Rattle.feed.specs.Layers.{gapped, stirred, stirred_after}
+use Rattle.feed.specs.Layers.{held, gapped, stirred, stirred_after}
 use Rattle.feed.specs.declared.gap.Gap.{Gap}
 use Rattle.feed.specs.declared.join.Join.{Join}
 use Rattle.feed.specs.declared.stir.Stir.{Stir}
 
 module _ {P : Type 0} where
+  abbrev pub held_from : ℕ → List P → List P
+  held_from at ps = drop at (held ps)
+
   abbrev pub gap_from : Option ℕ → List P → List P
   gap_from None ps = ps
   gap_from (Some n) ps = gapped n ps

@@ -39,7 +39,7 @@ impl<'a, F: SymbolField> Feed for Held<'a, F> {
 
     ghost list = { held };
 
-    ghost short = { held_short };
+    ghost short = { held_short 0 };
 
     fn len(&self) -> usize {
         self.packets.len()

@@ -77,6 +77,20 @@ pub trait SymbolField: FiniteField {
 
     ghost frobenius: { Self → Self };
 
+    // q, by the constant
+    fn q() -> u32
+        ensures { result ≡ ORDER }
+    {
+        Self::ORDER
+    }
+
+    // m, by the constant
+    fn m() -> usize
+        ensures { result ≡ DEGREE }
+    {
+        Self::DEGREE
+    }
+
     // The q-th power.
     fn raise(self) -> Self
         ensures { result ≡ frobenius self };

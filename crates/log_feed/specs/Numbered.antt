@@ -2,6 +2,7 @@
 --   with_number      the packet of an entry that is a packet line with this number
 --   numbered         the packets of all entries with this number, in order, whatever their headers
 --   log_packets      those of a log
+--   Feeding          a feed: a reader of the lines that are left, and the number
 --   fed              what a feed has still to come; of a log that is too long, nothing
 --   names            a first line was read, and it names this field
 --   feed_refusal     why no feed is made: the lowest refusal that applies
@@ -30,6 +31,10 @@ names name (Some h) = bytes_eq (spelled h.name) (spelled name)
 abbrev pub feed_refusal : FieldName → ℕ → List ℕ → Option Refusal
 feed_refusal name number log =
     first_cause ((nat_lt 7 number, BlockNumber) ∷ (nat_lt log_limit (length log), LogLong) ∷ (not (names name (first_head (lines log))), LineShape) ∷ [])
+
+pub record Feeding (S : Type 0) : Type 0 where
+  pub reader : Reader S
+  pub number : ℕ
 
 module _ {K S : Type 0} (A : Alphabet K S) (name : FieldName) (n : ℕ) where
   abbrev pub when_number : Option (ℕ × Packet S) → Option (Packet S)

@@ -2,6 +2,8 @@
 use crate::LogFeed;
 use answer::refusal::Refusal;
 use feed::Feed;
+use feed::held::Held;
+use feed::join::Join;
 use field::octet::Octet;
 use field::{FiniteField, SymbolField};
 use packet::Packet;
@@ -107,5 +109,22 @@ fn places(rt: HostRuntime) -> Result<(), Fail> {
     };
     assert_eq!(rt; line.place, 27);
     assert!(rt; reader.next().is_none());
+    Ok(())
+}
+
+// The rest of a join of a lent feed with a log's packets, past its first packet.
+fn after_lent<D: Feed<Item = Packet<Octet>>>(feed: &mut D, log: &[u8]) -> Result<usize, Refusal> {
+    let mut joined = Join::new(feed, LogFeed::new(log, 0)?);
+    let _ = joined.next();
+    Ok(joined.len())
+}
+
+#[test]
+fn joins_a_lent_feed(rt: HostRuntime) -> Result<(), Fail> {
+    let one = [Packet::zero()];
+    let mut lent = Held::new(&one);
+    let log = b"L,octet,3,1\nP,0,01,02\nP,0,02,04";
+    assert_eq!(rt; after_lent(&mut lent, log), Ok(2));
+    assert_eq!(rt; lent.len(), 0);
     Ok(())
 }

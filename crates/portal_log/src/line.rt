@@ -40,7 +40,7 @@ pub fn read_packet<F: LogField>(
     header: &[u8],
     payload: &[u8],
 ) -> Option<(u8, Packet<F>)>
-    ensures { result ≡ packet_of (alphabet F.Scalar.FiniteField F.SymbolField) F.LogField.NAME number.now header.now payload.now }
+    ensures { result ≡ packet_of (alphabet F.Scalar.FiniteField F.SymbolField) F.LogField.FIELD_NAME number.now header.now payload.now }
 {
     let number = block_number(number)?;
     let x = read_symbol(header)?;
@@ -75,7 +75,7 @@ fn packet_at<'a>(place: usize, number: &'a [u8], header: &'a [u8], payload: &'a 
 // What a line after the first is.
 pub(crate) fn read_line<F: LogField>(line: Part<'_>) -> Line<'_>
     requires { line.place + length line.text.now < 2 ^ 64 }
-    ensures { shown result ≡ entry (alphabet F.Scalar.FiniteField F.SymbolField) F.LogField.NAME (part_of line.entry) }
+    ensures { shown result ≡ entry (alphabet F.Scalar.FiniteField F.SymbolField) F.LogField.FIELD_NAME (part_of line.entry) }
 {
     if line.text == b"E,,,".as_slice() {
         return Line::Erased { place: line.place };

@@ -63,25 +63,32 @@ impl fmt::Display for FieldName {
 
 // A symbol field that logs can be in.
 pub trait LogField: SymbolField {
-    const NAME: FieldName;
+    const FIELD_NAME: FieldName;
 
-    ghost NAME: { FieldName };
+    ghost FIELD_NAME: { FieldName };
+
+    // the field's name, by the constant
+    fn name() -> FieldName
+        ensures { result ≡ FIELD_NAME }
+    {
+        Self::FIELD_NAME
+    }
 }
 
 impl LogField for Octet {
-    const NAME: FieldName = FieldName::Octet;
+    const FIELD_NAME: FieldName = FieldName::Octet;
 
-    ghost NAME = { FieldName.Octet };
+    ghost FIELD_NAME = { FieldName.Octet };
 }
 
 impl LogField for Word {
-    const NAME: FieldName = FieldName::Word;
+    const FIELD_NAME: FieldName = FieldName::Word;
 
-    ghost NAME = { FieldName.Word };
+    ghost FIELD_NAME = { FieldName.Word };
 }
 
 impl LogField for Nibble {
-    const NAME: FieldName = FieldName::Nibble;
+    const FIELD_NAME: FieldName = FieldName::Nibble;
 
-    ghost NAME = { FieldName.Nibble };
+    ghost FIELD_NAME = { FieldName.Nibble };
 }

@@ -54,7 +54,7 @@ impl<'a, F: LogField> Reader<'a, F> {
 impl<'a, F: LogField> Iterator for Reader<'a, F> {
     type Item = Line<'a>;
 
-    ghost next_gives = { GivesEntry (alphabet F.Scalar.FiniteField F.SymbolField) F.LogField.NAME };
+    ghost next_gives = { GivesEntry (alphabet F.Scalar.FiniteField F.SymbolField) F.LogField.FIELD_NAME };
 
     ghost remaining = { item_count (λ s. left_lines s.lines) };
 

@@ -24,7 +24,7 @@ pub(crate) struct Block<F> {
 
 // The symbols of the parts that are left.
 fn read_message<F: LogField>(heap: Global, codes: Parts<'_>) -> Result<Vec<F>, Fault>
-    ensures { Answers vec_items result (message_of (alphabet F.Scalar.FiniteField F.SymbolField) F.LogField.NAME (left_parts codes.entry)) }
+    ensures { Answers vec_items result (message_of (alphabet F.Scalar.FiniteField F.SymbolField) F.LogField.FIELD_NAME (left_parts codes.entry)) }
 {
     let mut message = Vec::new(heap);
     for code in codes {
@@ -37,7 +37,7 @@ fn read_message<F: LogField>(heap: Global, codes: Parts<'_>) -> Result<Vec<F>, F
 impl<F: LogField> Block<F> {
     // The block of a line; its number is at most 7.
     pub(crate) fn read(heap: Global, line: &[u8]) -> Result<Block<F>, Fault>
-        ensures { Answers held result (block_of (alphabet F.Scalar.FiniteField F.SymbolField) F.LogField.NAME (parts line.now)) }
+        ensures { Answers held result (block_of (alphabet F.Scalar.FiniteField F.SymbolField) F.LogField.FIELD_NAME (parts line.now)) }
     {
         let mut parts = Parts::of(line);
         let number = parts.next().and_then(one_digit).ok_or(Refusal::LineShape)?;

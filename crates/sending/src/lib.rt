@@ -26,7 +26,7 @@ use std::alloc::{AllocError, Global};
 
 // What is printed for a sheet in the field F.
 fn send_in<F: LogField>(heap: Global, head: Head, lines: Lines<'_>) -> Result<String, AllocError>
-    ensures { IfOk result (λ t. string_bytes t ≡ sent_in (alphabet F.Scalar.FiniteField F.SymbolField) F.LogField.NAME head (left_lines lines.entry)) }
+    ensures { IfOk result (λ t. string_bytes t ≡ sent_in (alphabet F.Scalar.FiniteField F.SymbolField) F.LogField.FIELD_NAME head (left_lines lines.entry)) }
 {
     let Some(sender) = Sender::<F>::of(head) else {
         return refusal_line(heap, Refusal::Parameters, 1);

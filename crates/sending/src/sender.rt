@@ -37,7 +37,7 @@ impl<F: LogField> Sender<F> {
 
     // The lines of a block's packets.
     fn block_lines(&self, heap: Global, block: &Block<F>) -> Result<String, Fault>
-        ensures { Answers string_bytes result (block_text (alphabet F.Scalar.FiniteField F.SymbolField) F.LogField.NAME self.now.parameters.k self.now.parameters.l (held block.now)) }
+        ensures { Answers string_bytes result (block_text (alphabet F.Scalar.FiniteField F.SymbolField) F.LogField.FIELD_NAME self.now.parameters.k self.now.parameters.l (held block.now)) }
     {
         let Parameters { k, l, .. } = self.parameters;
         let mut packets = vec![in heap; Packet::zero(); l]?;
@@ -47,7 +47,7 @@ impl<F: LogField> Sender<F> {
 
     // The lines that come of a block line.
     fn line_text(&self, heap: Global, line: &[u8]) -> Result<String, Fault>
-        ensures { Answers string_bytes result (and_then (block_of (alphabet F.Scalar.FiniteField F.SymbolField) F.LogField.NAME (parts line.now)) (block_text (alphabet F.Scalar.FiniteField F.SymbolField) F.LogField.NAME self.now.parameters.k self.now.parameters.l)) }
+        ensures { Answers string_bytes result (and_then (block_of (alphabet F.Scalar.FiniteField F.SymbolField) F.LogField.FIELD_NAME (parts line.now)) (block_text (alphabet F.Scalar.FiniteField F.SymbolField) F.LogField.FIELD_NAME self.now.parameters.k self.now.parameters.l)) }
     {
         let block = Block::read(heap, line)?;
         self.block_lines(heap, &block)
@@ -60,7 +60,7 @@ impl<F: LogField> Sender<F> {
         lines: Lines<'_>,
         mut text: String,
     ) -> Result<String, AllocError>
-        ensures { IfOk result (λ t. string_bytes t ≡ printed (string_bytes text) (blocks_text (alphabet F.Scalar.FiniteField F.SymbolField) F.LogField.NAME self.now.parameters.k self.now.parameters.l 2 (left_lines lines.entry))) }
+        ensures { IfOk result (λ t. string_bytes t ≡ printed (string_bytes text) (blocks_text (alphabet F.Scalar.FiniteField F.SymbolField) F.LogField.FIELD_NAME self.now.parameters.k self.now.parameters.l 2 (left_lines lines.entry))) }
     {
         for (i, line) in lines.enumerate() {
             match self.line_text(heap, line.text) {

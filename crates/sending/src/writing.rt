@@ -37,7 +37,7 @@ pub fn packet_lines<F: LogField>(
     number: u8,
     packets: &[Packet<F>],
 ) -> Result<String, AllocError>
-    ensures { IfOk result (λ t. string_bytes t ≡ flat_map (packet_line (alphabet F.Scalar.FiniteField F.SymbolField) F.LogField.NAME number) packets.now) }
+    ensures { IfOk result (λ t. string_bytes t ≡ flat_map (packet_line (alphabet F.Scalar.FiniteField F.SymbolField) F.LogField.FIELD_NAME number) packets.now) }
 {
     let mut text = String::new(heap);
     for packet in packets {

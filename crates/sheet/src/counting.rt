@@ -18,8 +18,8 @@ pub(crate) struct Counts {
 }
 
 pub(crate) fn count_lines<F: LogField>(log: &Log<'_, F>) -> Counts
-    ensures erased { result.erased ≡ erased (log_entries (alphabet F.Scalar.FiniteField F.SymbolField) F.LogField.NAME log.now.bytes.now) }
-    ensures unreadable { result.unreadable ≡ unreadable (log_entries (alphabet F.Scalar.FiniteField F.SymbolField) F.LogField.NAME log.now.bytes.now) }
+    ensures erased { result.erased ≡ erased (log_entries (alphabet F.Scalar.FiniteField F.SymbolField) F.LogField.FIELD_NAME log.now.bytes.now) }
+    ensures unreadable { result.unreadable ≡ unreadable (log_entries (alphabet F.Scalar.FiniteField F.SymbolField) F.LogField.FIELD_NAME log.now.bytes.now) }
 {
     let (_, lines) = open(log.bytes);
     let reader: Reader<'_, F> = Reader::of(lines);

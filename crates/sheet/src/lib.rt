@@ -34,8 +34,8 @@ use subspace_code::parameters::Parameters;
 fn sheet_in<F: LogField>(heap: Global, head: Head, log: &[u8]) -> Result<String, AllocError>
     requires short { length log.now ≤ log_limit }
     requires first { first_head (lines log.now) ≡ Some head }
-    requires field { head.name ≡ F.LogField.NAME }
-    ensures { IfOk result (λ t. SheetFits (alphabet F.Scalar.FiniteField F.SymbolField) F.LogField.NAME (fits head.k head.l F.SymbolField.DEGREE) head log.now (string_bytes t)) }
+    requires field { head.name ≡ F.LogField.FIELD_NAME }
+    ensures { IfOk result (λ t. SheetFits (alphabet F.Scalar.FiniteField F.SymbolField) F.LogField.FIELD_NAME (fits head.k head.l F.SymbolField.DEGREE) head log.now (string_bytes t)) }
 {
     let Some(parameters) = Parameters::<F>::new(head.k, head.l) else {
         return refused_text(heap, Refusal::Parameters);

@@ -13,5 +13,5 @@ pub(crate) struct Log<'a, F: LogField> {
     pub(crate) bytes: &'a [u8],
     pub(crate) parameters: Parameters<F>,
     ghost short: { length bytes.now ≤ log_limit },
-    ghost first: { first_head (lines bytes.now) ≡ Some (record { name = F.LogField.NAME; l = parameters.l; k = parameters.k }) },
+    ghost first: { first_head (lines bytes.now) ≡ Some (record { name = F.LogField.FIELD_NAME; l = parameters.l; k = parameters.k }) },
 }

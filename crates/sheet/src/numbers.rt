@@ -48,9 +48,9 @@ fn collect_number<F: LogField>(
 ) -> Outcome
     requires below { number < 8 }
     requires stands { Standing (alphabet F.Scalar.FiniteField F.SymbolField) number (record { session = session.now; rows = rows.old }) }
-    ensures done { (k ℓ : ℕ) (later : List (PacketOf F)) (m : Machine F) → Represents (alphabet F.Scalar.FiniteField F.SymbolField) k ℓ later (record { session = session.entry.now; rows = rows.old }) m → m number ≡ shut → NumberDone (alphabet F.Scalar.FiniteField F.SymbolField) k ℓ later m number (log_packets (alphabet F.Scalar.FiniteField F.SymbolField) F.LogField.NAME number log.now.bytes.now) (record { drain = result.drained; output = message.old; written = message.new; solve = result.solved }) (record { session = session.exit.now; rows = rows.new }) }
+    ensures done { (k ℓ : ℕ) (later : List (PacketOf F)) (m : Machine F) → Represents (alphabet F.Scalar.FiniteField F.SymbolField) k ℓ later (record { session = session.entry.now; rows = rows.old }) m → m number ≡ shut → NumberDone (alphabet F.Scalar.FiniteField F.SymbolField) k ℓ later m number (log_packets (alphabet F.Scalar.FiniteField F.SymbolField) F.LogField.FIELD_NAME number log.now.bytes.now) (record { drain = result.drained; output = message.old; written = message.new; solve = result.solved }) (record { session = session.exit.now; rows = rows.new }) }
     ensures taken { result.counted.kept ≡ taken result.drained }
-    ensures passed { result.counted.passed ≡ passed (length (log_packets (alphabet F.Scalar.FiniteField F.SymbolField) F.LogField.NAME number log.now.bytes.now)) result.drained }
+    ensures passed { result.counted.passed ≡ passed (length (log_packets (alphabet F.Scalar.FiniteField F.SymbolField) F.LogField.FIELD_NAME number log.now.bytes.now)) result.drained }
     ensures few { result.counted.kept + result.counted.passed ≤ feed_limit }
 {
     let mut feed = LogFeed::<F>::new(log.bytes, number).unwrap();
@@ -74,7 +74,7 @@ pub(crate) fn numbers_text<F: LogField>(
     heap: Global,
     log: &Log<'_, F>,
 ) -> Result<Numbers, AllocError>
-    ensures { IfOk result (λ n. NumbersText (alphabet F.Scalar.FiniteField F.SymbolField) F.LogField.NAME log.now.parameters.k log.now.parameters.l log.now.bytes.now (string_bytes n.text) n.taken n.passed) }
+    ensures { IfOk result (λ n. NumbersText (alphabet F.Scalar.FiniteField F.SymbolField) F.LogField.FIELD_NAME log.now.parameters.k log.now.parameters.l log.now.bytes.now (string_bytes n.text) n.taken n.passed) }
 {
     let Parameters { k, l, .. } = log.parameters;
     let mut rows = vec![in heap; Packet::zero(); 8 * (l + F::DEGREE)]?;

@@ -48,7 +48,7 @@ fn write_solved<F: LogField>(
     solved: Solved,
     message: &[F],
 ) -> Result<(), AllocError>
-    ensures { OnOk result (string_bytes text.new ≡ string_bytes text.old ++ solve_line (alphabet F.Scalar.FiniteField F.SymbolField) F.LogField.NAME number taken message.now (Ok solved)) }
+    ensures { OnOk result (string_bytes text.new ≡ string_bytes text.old ++ solve_line (alphabet F.Scalar.FiniteField F.SymbolField) F.LogField.FIELD_NAME number taken message.now (Ok solved)) }
 {
     let Solved {
         dimension,
@@ -74,7 +74,7 @@ pub(crate) fn write_number<F: LogField>(
     drained: Result<Drained, Refusal>,
     solved: Result<Solved, Refusal>,
 ) -> Result<(), AllocError>
-    ensures { OnOk result (string_bytes text.new ≡ string_bytes text.old ++ number_line (alphabet F.Scalar.FiniteField F.SymbolField) F.LogField.NAME number message.now drained solved) }
+    ensures { OnOk result (string_bytes text.new ≡ string_bytes text.old ++ number_line (alphabet F.Scalar.FiniteField F.SymbolField) F.LogField.FIELD_NAME number message.now drained solved) }
 {
     match (drained, solved) {
         (Err(refusal), _) => write_refused(text, number, 0, 0, refusal),

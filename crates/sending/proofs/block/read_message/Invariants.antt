@@ -8,6 +8,6 @@ use Rattle.sending.proofs.block.read_message.Given as goal
 
 abbrev pub invariant-loop-code : goal.invariant-loop-code
 invariant-loop-code g l =
-    let whole = message_of (alphabet g.F.Scalar.FiniteField g.F.FiniteField g.F.SymbolField) g.F.LogField.NAME in
+    let whole = message_of (alphabet g.F.Scalar.FiniteField g.F.FiniteField g.F.SymbolField) g.F.LogField.FIELD_NAME in
     (goal.iterator-loop-code g).can_next l.code-iterator × (goal.iterator-loop-code g).is_finite l.code-iterator
     × (after (vec_items l.message) (whole (left_parts l.code-iterator)) ≡ whole (left_parts l.initial.code-iterator))

@@ -7,4 +7,4 @@ use Rattle.sending.proofs.writing.packet_lines.Given as goal
 
 abbrev pub invariant-loop-packet : goal.invariant-loop-packet
 invariant-loop-packet g l =
-    string_bytes l.text ≡ flat_map (packet_line (alphabet g.F.Scalar.FiniteField g.F.FiniteField g.F.SymbolField) g.F.LogField.NAME l.number) (take l.packet-index l.packets)
+    string_bytes l.text ≡ flat_map (packet_line (alphabet g.F.Scalar.FiniteField g.F.FiniteField g.F.SymbolField) g.F.LogField.FIELD_NAME l.number) (take l.packet-index l.packets)

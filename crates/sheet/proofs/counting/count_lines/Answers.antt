@@ -15,7 +15,7 @@ use Rattle.sheet.proofs.counting.count_lines.Goals as goal
 few : (g : given.Over) (r : Reader g.row.F.Denot) (l : Lines) (log : List ℕ) → r.lines ≡ l → l.text.now ≡ log → length log ≤ log_limit → length (entries g r) ≤ log_limit
 few g r l log e f h =
     let A = alphabet g.F.Scalar.FiniteField g.F.FiniteField g.F.SymbolField in
-    omega (arith, entries_length A g.F.LogField.NAME r, ap (λ (l : Lines). length l.text.now) e, ap length f)
+    omega (arith, entries_length A g.F.LogField.FIELD_NAME r, ap (λ (l : Lines). length l.text.now) e, ap length f)
 
 pub overflow_add-erased : goal.overflow_add-erased
 overflow_add-erased g c =

@@ -8,7 +8,7 @@ use Rattle.sheet.specs.Sheets.{erased, unreadable}
 use Rattle.sheet.proofs.counting.count_lines.Given as goal
 
 abbrev pub entries : (g : goal.Over) → Reader g.row.F.Denot → List Entry
-entries g r = left_entries (alphabet g.F.Scalar.FiniteField g.F.FiniteField g.F.SymbolField) g.F.LogField.NAME r
+entries g r = left_entries (alphabet g.F.Scalar.FiniteField g.F.FiniteField g.F.SymbolField) g.F.LogField.FIELD_NAME r
 
 abbrev pub invariant-loop-line : goal.invariant-loop-line
 invariant-loop-line g l =

@@ -47,7 +47,7 @@ fed_number h b log below short first = search rules
 pub returns : goal.returns
 unfolding A
 returns g c =
-    let name = g.F.LogField.NAME in
+    let name = g.F.LogField.FIELD_NAME in
     let b = c.args.number in
     let log = c.args.log.now in
     let packets = log_packets (A g) name b log.bytes.now in

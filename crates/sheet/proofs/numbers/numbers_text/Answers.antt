@@ -27,14 +27,14 @@ loop-number-init g c =
     let s = c.unwrap-session.result in
     let log = c.args.log.now.bytes.now in
     let begun : State g.row.F.Denot = record { session = s; rows = c.start.new.rows } in
-    subst (λ t. Progress (A g) g.F.LogField.NAME s.k s.l log 0 begun t 0 0) (sym c.new-text.ensures.bytes)
-    (progress_start (A g) g.F.LogField.NAME s.k s.l log _ begun (c.start.ensures.faithful s c.unwrap-session.ensures [] tt))
+    subst (λ t. Progress (A g) g.F.LogField.FIELD_NAME s.k s.l log 0 begun t 0 0) (sym c.new-text.ensures.bytes)
+    (progress_start (A g) g.F.LogField.FIELD_NAME s.k s.l log _ begun (c.start.ensures.faithful s c.unwrap-session.ensures [] tt))
 
 pub loop-number-preserved : goal.loop-number-preserved
 unfolding A
 loop-number-preserved g c =
     let s = c.unwrap-session.result in
-    let name = g.F.LogField.NAME in
+    let name = g.F.LogField.FIELD_NAME in
     let log = c.args.log.now.bytes.now in
     let p = c.loop-number.invariant in
     let b = c.loop-number.number in

@@ -8,7 +8,7 @@ use Rattle.portal_log.proofs.reader.ReaderIterator.next.Goals as goal
 pub returns-clause-steps : goal.returns-clause-steps
 returns-clause-steps g c =
     let A = alphabet g.F.Scalar.FiniteField g.F.FiniteField g.F.SymbolField in
-    let name = g.F.LogField.NAME in
+    let name = g.F.LogField.FIELD_NAME in
     let step = c.in_ok-line.ensures.steps in
     let line = part_of c.in_ok-line.line in
     let more = map (entry A name) (placed_lines c.next.new.self) in

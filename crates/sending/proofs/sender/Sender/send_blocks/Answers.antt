@@ -16,7 +16,7 @@ loop-i-init g c =
     let zero : enumerate_count it ≡ 0 = ap enumerate_count made ∙ c.enumerate-i-items.ensures.count in
     let left = left_lines (enumerate_source it) in
     let few : length left < 2 ^ 64 = omega (arith, left_few c.args.lines, ap (λ s. length (left_lines s)) source, c.ranges.lines) in
-    let texts = blocks_text (alphabet g.F.Scalar.FiniteField g.F.FiniteField g.F.SymbolField) g.F.LogField.NAME h.k h.l in
+    let texts = blocks_text (alphabet g.F.Scalar.FiniteField g.F.FiniteField g.F.SymbolField) g.F.LogField.FIELD_NAME h.k h.l in
     ((tt, tt, inl (omega (arith, zero, few))), tt, omega (arith, zero), ap (λ n. printed (string_bytes c.args.text) (texts (n + 2) left)) zero)
 
 pub overflow_add-i : goal.overflow_add-i
@@ -39,10 +39,10 @@ loop-i-preserved g c =
     let few : enumerate_count c.next.new.self + length more < 2 ^ 64 = omega (arith, whole, left_few c.args.lines, ap (λ s. length (left_lines s)) source, c.ranges.lines) in
     let after : enumerate_count c.next.new.self + 2 ≡ n + 1 = omega (arith, next-is) in
     let longer = pushed c.deref.result.now refl c.in_ok-push_str-in-Ok.was c.push_str.ensures.bytes in
-    let step = printed_more A g.F.LogField.NAME h.k h.l text n left c.in-Some.line.text.now more c.deref.result.now gives.gives (c.in-Ok.ensures ∙ ap Ok (sym c.deref.ensures)) in (
+    let step = printed_more A g.F.LogField.FIELD_NAME h.k h.l text n left c.in-Some.line.text.now more c.deref.result.now gives.gives (c.in-Ok.ensures ∙ ap Ok (sym c.deref.ensures)) in (
       (tt, tt, inl few),
       tt,
       whole,
-      ap (λ i. printed (string_bytes c.push_str.new.self) (blocks_text A g.F.LogField.NAME h.k h.l i more)) after
-          ∙ ap (λ first. printed first (blocks_text A g.F.LogField.NAME h.k h.l (n + 1) more)) longer ∙ step ∙ c.loop-i.invariant.3,
+      ap (λ i. printed (string_bytes c.push_str.new.self) (blocks_text A g.F.LogField.FIELD_NAME h.k h.l i more)) after
+          ∙ ap (λ first. printed first (blocks_text A g.F.LogField.FIELD_NAME h.k h.l (n + 1) more)) longer ∙ step ∙ c.loop-i.invariant.3,
     )

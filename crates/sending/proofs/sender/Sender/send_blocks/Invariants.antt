@@ -8,7 +8,7 @@ use Rattle.sending.proofs.sender.Sender.send_blocks.Given as goal
 
 abbrev pub invariant-loop-i : goal.invariant-loop-i
 invariant-loop-i g l =
-    let texts = blocks_text (alphabet g.F.Scalar.FiniteField g.F.FiniteField g.F.SymbolField) g.F.LogField.NAME l.self.parameters.k l.self.parameters.l in
+    let texts = blocks_text (alphabet g.F.Scalar.FiniteField g.F.FiniteField g.F.SymbolField) g.F.LogField.FIELD_NAME l.self.parameters.k l.self.parameters.l in
     let left = left_lines (enumerate_source l.i-iterator) in
     let whole = left_lines (enumerate_source l.initial.i-iterator) in
     (goal.iterator-loop-i g).can_next l.i-iterator × (goal.iterator-loop-i g).is_finite l.i-iterator
